@@ -1,0 +1,54 @@
+// The inverse of a map: cross and uncross trade places.
+ghost use Rattle.exchange.specs.Laws.{Returning};
+ghost use Rattle.exchange.specs.Layers.{inverse};
+ghost use mathlib.Core.Path.{_≡_};
+use crate::map::ExchangeMap;
+use crate::map::ReturningMap;
+
+// The map below run backwards.
+#[derive(Clone, Copy)]
+pub struct Inverse<M>(pub M);
+
+pub impl<M: ExchangeMap> ExchangeMap for Inverse<M> as InverseMap {
+    type Elem = M::Elem;
+
+    ghost meaning = { λ s. inverse (M·ExchangeMap .meaning (s .0)) };
+
+    fn belongs(&self, x: M::Elem) -> bool {
+        self.0.belongs(x)
+    }
+
+    fn kind(&self, x: M::Elem) -> u8 {
+        self.0.kind(x)
+    }
+
+    fn code(&self, x: M::Elem) -> u32 {
+        self.0.code(x)
+    }
+
+    fn is_code(&self, n: u32) -> bool {
+        self.0.is_code(n)
+    }
+
+    fn element(&self, n: u32) -> M::Elem {
+        self.0.element(n)
+    }
+
+    fn rest(&self) -> M::Elem {
+        self.0.rest()
+    }
+
+    fn cross(&self, left: M::Elem, right: M::Elem) -> (M::Elem, M::Elem) {
+        self.0.uncross(left, right)
+    }
+
+    fn uncross(&self, left: M::Elem, right: M::Elem) -> (M::Elem, M::Elem) {
+        self.0.cross(left, right)
+    }
+}
+
+pub impl<M: ReturningMap> ReturningMap for Inverse<M> as InverseReturning {
+    fn recross(&self, left: M::Elem, right: M::Elem) -> (M::Elem, M::Elem) {
+        self.0.recross(left, right)
+    }
+}
