@@ -8,24 +8,14 @@ use lib.Dec.{T}
 use Rattle.exchange.specs.Meaning.{Elements, Exchange, Meaning}
 use Rattle.exchange.specs.Laws.{All, Braids, Exchanges, Keeps, Lawful, Numbered, Pair, Returning, Undoes, first, last, no-code}
 use Rattle.exchange.specs.Rules.{Returns, Sound, Trades, completed, guarded}
+use Rattle.std.proofs.shelf.Tests.{and-left, and-right, cond-false}
+use Rattle.exchange.proofs.Tests.{T-both}
 use Rattle.exchange.proofs.Triples.{first-belong, last-belong}
 
 -- a choice made by a test that passes
 chosen : {A : Type 0} (b : Bool) (x y : A) → T b → cond b x y ≡ x
 chosen true x y t = refl
 chosen false x y t = absurd t
-
--- and by one that fails
-passed : {A : Type 0} (b : Bool) (x y : A) → b ≡ false → cond b x y ≡ y
-passed b x y h = ap (λ (c : Bool). cond c x y) h
-
-both : (a b : Bool) → T a → T b → T (a && b)
-both true b s t = t
-both false b s t = s
-
-one-fails : (a b : Bool) → b ≡ false → (a && b) ≡ false
-one-fails true b h = h
-one-fails false b h = refl
 
 paired : (a b : Bool) → (T a × T b) ⊎ ((a && b) ≡ false)
 paired true true = inl (tt, tt)
@@ -38,7 +28,7 @@ small false n h = omega arith
 
 module _ {E : Type 0} (e : Elements E) (f : Exchange E) where
   guarded-on : (x y : E) → Pair e x y → guarded (e .belongs) f x y ≡ f x y
-  guarded-on x y h = chosen (e .belongs x && e .belongs y) (f x y) (x, y) (both _ _ (h .0) (h .1))
+  guarded-on x y h = chosen (e .belongs x && e .belongs y) (f x y) (x, y) (T-both _ _ (h .0) (h .1))
 
   first-on : (t : E × E × E) → All e t → first (guarded (e .belongs) f) t ≡ first f t
   first-on t h = ap (λ (p : E × E). (p .0, p .1, t .2)) (guarded-on (t .0) (t .1) (h .0, h .1))
@@ -49,7 +39,7 @@ module _ {E : Type 0} (e : Elements E) (f : Exchange E) where
   undoes : (g : Exchange E) → Keeps e f → Undoes e f g → Undoes e (guarded (e .belongs) f) (guarded (e .belongs) g)
   undoes g k u x y h =
       ap (λ (p : E × E). guarded (e .belongs) g (p .0) (p .1)) (guarded-on x y h)
-      ∙ (chosen _ _ _ (both _ _ (k x y h .0) (k x y h .1)) ∙ u x y h)
+      ∙ (chosen _ _ _ (T-both _ _ (k x y h .0) (k x y h .1)) ∙ u x y h)
 
   braids : Keeps e f → Braids e f → Braids e (guarded (e .belongs) f)
   braids k b t h =
@@ -77,8 +67,8 @@ module _ {E : Type 0} {m : Meaning E} (s : Sound m) where
         belong = λ x y h. subst (λ (p : E × E). Pair (m .elements) (p .0) (p .1)) (sym (guarded-on (m .elements) f x y h)) (t .belong x y h);
         left-kind = λ x y h. ap (λ (p : E × E). kind (p .0)) (guarded-on (m .elements) f x y h) ∙ (kind-on _ (t .belong x y h .0) ∙ (t .left-kind x y h ∙ sym (kind-on y (h .1))));
         right-kind = λ x y h. ap (λ (p : E × E). kind (p .1)) (guarded-on (m .elements) f x y h) ∙ (kind-on _ (t .belong x y h .1) ∙ (t .right-kind x y h ∙ sym (kind-on x (h .0))));
-        left-stranger = λ x y h. passed _ _ _ (ap (λ (c : Bool). c && b y) h);
-        right-stranger = λ x y h. passed _ _ _ (one-fails (b x) _ h);
+        left-stranger = λ x y h. cond-false _ _ _ (and-left (b x) (b y) h);
+        right-stranger = λ x y h. cond-false _ _ _ (and-right (b x) (b y) h);
       }
 
   numbered : Numbered (completed m .elements)
@@ -92,10 +82,10 @@ module _ {E : Type 0} {m : Meaning E} (s : Sound m) where
         element-of-code = λ x h. ap (λ (c : ℕ). cond (e .codes c) (e .element c) (e .rest)) (chosen _ _ _ h) ∙ (chosen _ _ _ (n .code-is-one x h) ∙ n .element-of-code x h);
         element-belongs = λ k h. subst (λ (x : E). T (e .belongs x)) (sym (chosen _ _ _ h)) (n .element-belongs k h);
         code-of-element = λ k h. ap (λ (x : E). cond (e .belongs x) (e .code x) no-code) (chosen _ _ _ h) ∙ (chosen _ _ _ (n .element-belongs k h) ∙ n .code-of-element k h);
-        no-element = λ k h. passed _ _ _ h;
+        no-element = λ k h. cond-false _ _ _ h;
         rest-belongs = n .rest-belongs;
-        stranger-kind = λ x h. passed _ _ _ h;
-        stranger-code = λ x h. passed _ _ _ h;
+        stranger-kind = λ x h. cond-false _ _ _ h;
+        stranger-code = λ x h. cond-false _ _ _ h;
       }
 
   pub completed-lawful : Lawful (completed m)
@@ -114,7 +104,7 @@ module _ {E : Type 0} {m : Meaning E} (s : Sound m) where
   completed-returning r =
       let e = m .elements in
       let G = completed m .cross in
-      let stays : (x y : E) → (e .belongs x && e .belongs y) ≡ false → G x y ≡ (x, y) = λ x y n. passed _ _ _ n in
+      let stays : (x y : E) → (e .belongs x && e .belongs y) ≡ false → G x y ≡ (x, y) = λ x y n. cond-false _ _ _ n in
       record {
         twice = λ x y. ⊎-elim (undoes e (m .cross) (m .cross) (s .crosses .belong) (r .twice) x y) (λ n. ap (λ (p : E × E). G (p .0) (p .1)) (stays x y n) ∙ stays x y n) (paired (e .belongs x) (e .belongs y));
         alike = λ x y k. ⊎-elim (λ h. guarded-on e (m .cross) x y h ∙ r .alike x y h (sym (kind-on x (h .0)) ∙ (k ∙ kind-on y (h .1)))) (stays x y) (paired (e .belongs x) (e .belongs y));
