@@ -1,0 +1,34 @@
+// The theorems, each the contract of a function that does nothing else.
+ghost use Rattle.runs.specs.Runs.{Promises};
+ghost use Rattle.runs.specs.Theorems.{Kinds-tell, One-outcome, Reordering, Undo};
+use exchange::map::ExchangeMap;
+
+// A take-back undoes a sweep, and a sweep a take-back.
+pub fn sweeps_are_undone<M: ExchangeMap>(map: &M)
+    ensures { λ _. ⌜ Undo (M·ExchangeMap .meaning (now (map .entry))) ⌝ }
+{
+}
+
+// Reordered carriers leave the same row, and what goes out is reordered alike.
+pub fn reordering_changes_nothing<M: ExchangeMap>(map: &M)
+    ensures { λ _. ⌜ Reordering (M·ExchangeMap .meaning (now (map .entry))) ⌝ }
+{
+}
+
+// Over a returning map, carriers are told by their kinds and by how they can be reordered.
+pub fn kinds_tell_carriers<M: ExchangeMap>(map: &M)
+    ensures { λ _. ⌜ Kinds-tell (M·ExchangeMap .meaning (now (map .entry))) ⌝ }
+{
+}
+
+// The plain book answers every call, in one way.
+pub fn the_book_has_one_outcome<M: ExchangeMap>(map: &M)
+    ensures { λ _. ⌜ One-outcome (M·ExchangeMap .meaning (now (map .entry))) ⌝ }
+{
+}
+
+// What every run of a bench keeps, from whatever row it was filled with.
+pub fn the_promise_of_runs<M: ExchangeMap>(map: &M)
+    ensures { λ _. ⌜ Promises (M·ExchangeMap .meaning (now (map .entry))) ⌝ }
+{
+}
