@@ -1,6 +1,6 @@
 -- Over a returning map, a list is told by its kinds and its reorderings: an insertion by kind is the same before and after an exchange, and is undone when the kinds are known. Assumes nothing.
 use Prim.Native.Nat.{ℕ, zero, suc, _≤_, _<_}
-use mathlib.Core.Path.{_≡_, refl, sym, ap, subst, fun-ext, _∙_}
+use mathlib.Core.Path.{_≡_, refl, sym, ap, ap₂, subst, fun-ext, _∙_}
 use mathlib.Core.Bool.{Bool, true, false, cond}
 use mathlib.Core.Logic.{_⊎_, inl, inr}
 use mathlib.Core.List.{List, [], _∷_, map}
@@ -23,6 +23,15 @@ insert m x (y ∷ zs) = cond (leb (m .elements .kind x) (m .elements .kind y)) (
 sorted : {E : Type 0} → Meaning E → List E → List E
 sorted m [] = []
 sorted m (x ∷ xs) = insert m x (sorted m xs)
+
+-- what these do to the kinds
+abbrev place : ℕ → List ℕ → List ℕ
+place k [] = k ∷ []
+place k (j ∷ js) = cond (leb k j) (k ∷ j ∷ js) (j ∷ place k js)
+
+abbrev placed : List ℕ → List ℕ
+placed [] = []
+placed (k ∷ ks) = place k (placed ks)
 
 module _ {E : Type 0} (m : Meaning E) where
   insert-alone : (x : E) → insert m x [] ≡ x ∷ []
@@ -114,3 +123,117 @@ module _ {E : Type 0} {m : Meaning E} (l : Lawful m) where
           let e3 = insert-stays m y z zs a in
           let e4 = insert-passes m x y (z ∷ zs) s in
           ap (insert m (p .1)) e1 ∙ (e2 ∙ (sym (ap (λ (t : List E). p .1 ∷ t) e1) ∙ (sym e4 ∙ sym (ap (insert m x) e3))))
+
+  sorted-belong : (xs : List E) → Belong m xs → Belong m (sorted m xs)
+  unfolding sorted
+  sorted-belong [] h = h
+  sorted-belong (x ∷ xs) h = insert-belong x (sorted m xs) (h .0) (sorted-belong xs (h .1))
+
+  kinds-insert : (x : E) (zs : List E) → T (m .elements .belongs x) → Belong m zs → map (m .elements .kind) (insert m x zs) ≡ place (m .elements .kind x) (map (m .elements .kind) zs)
+  unfolding insert
+  kinds-insert x [] hx h = refl
+  kinds-insert x (y ∷ zs) hx h = split (leb (m .elements .kind x) (m .elements .kind y)) (kinds-insert (m .cross y x .0) zs (l .crosses .belong y x (h .0, hx) .0) (h .1))
+    where
+      split : (b : Bool) → map (m .elements .kind) (insert m (m .cross y x .0) zs) ≡ place (m .elements .kind (m .cross y x .0)) (map (m .elements .kind) zs) →
+          map (m .elements .kind) (cond b (x ∷ y ∷ zs) (m .cross y x .1 ∷ insert m (m .cross y x .0) zs))
+          ≡ cond b (m .elements .kind x ∷ m .elements .kind y ∷ map (m .elements .kind) zs) (m .elements .kind y ∷ place (m .elements .kind x) (map (m .elements .kind) zs))
+      split true ih = refl
+      split false ih =
+          let e0 = l .crosses .left-kind y x (h .0, hx) in
+          let e1 = l .crosses .right-kind y x (h .0, hx) in
+          cc
+
+  kinds-sorted : (xs : List E) → Belong m xs → map (m .elements .kind) (sorted m xs) ≡ placed (map (m .elements .kind) xs)
+  unfolding sorted
+  kinds-sorted [] h = refl
+  kinds-sorted (x ∷ xs) h = kinds-insert x (sorted m xs) (h .0) (sorted-belong xs (h .1)) ∙ ap (place (m .elements .kind x)) (kinds-sorted xs (h .1))
+
+module _ {E : Type 0} {m : Meaning E} (l : Lawful m) (r : Returning m) where
+  sorted-exchanged : (i : ℕ) (xs : List E) → Belong m xs → sorted m (exchanged (m .cross) i xs) ≡ sorted m xs
+  unfolding sorted
+  sorted-exchanged i [] h = refl
+  sorted-exchanged zero (x ∷ []) h = refl
+  sorted-exchanged zero (x ∷ y ∷ zs) h = split (cases-order (m .elements .kind y) (m .elements .kind x))
+    where
+      p : E × E
+      p = m .cross y x
+      hp : T (m .elements .belongs (p .0)) × T (m .elements .belongs (p .1))
+      hp = l .crosses .belong y x (h .1 .0, h .0)
+      hz : Belong m (sorted m zs)
+      hz = sorted-belong l zs (h .1 .1)
+      insert2 : E × E → List E
+      insert2 t = insert m (t .1) (insert m (t .0) (sorted m zs))
+      split : ((m .elements .kind y ≡ m .elements .kind x) ⊎ ((m .elements .kind y < m .elements .kind x) ⊎ (m .elements .kind x < m .elements .kind y))) → insert2 p ≡ insert2 (y, x)
+      split (inl e) = ap insert2 (r .alike y x e)
+      split (inr (inl s)) = insert-exchanged l x y (sorted m zs) (h .0) (h .1 .0) hz s
+      split (inr (inr s)) =
+          let ka = l .crosses .right-kind y x (h .1 .0, h .0) in
+          let kb = l .crosses .left-kind y x (h .1 .0, h .0) in
+          sym (insert-exchanged l (p .1) (p .0) (sorted m zs) (hp .1) (hp .0) hz (omega (arith, ka, kb))) ∙ ap insert2 (r .twice y x)
+  sorted-exchanged (suc i) (x ∷ xs) h = ap (insert m x) (sorted-exchanged i xs (h .1))
+
+  by-is-cross : (w : Way) → by m w ≡ m .cross
+  by-is-cross forth = refl
+  by-is-cross back = fun-ext (λ x. fun-ext (λ y. uncross-is-cross l r x y))
+
+  sorted-turned : (xs ys : List E) (moves : List Move) → Belong m xs → Turns m moves xs ys → (sorted m xs ≡ sorted m ys) × Belong m ys
+  sorted-turned xs ys [] h e = (ap (sorted m) e, subst (Belong m) e h)
+  sorted-turned xs ys (move ∷ moves) h t =
+      let next = exchanged (by m (move .0)) (move .1) xs in
+      let rest = sorted-turned next ys moves (exchanged-belong l (move .0) (move .1) xs h) (t .1) in
+      (sym (sorted-exchanged (move .1) xs h) ∙ (sym (ap (λ (f : Exchange E). sorted m (exchanged f (move .1) xs)) (by-is-cross (move .0))) ∙ rest .0), rest .1)
+
+  -- an insertion is undone when the kinds are known
+  insert-told : (x x′ : E) (zs zs′ : List E) → Belong m (x ∷ zs) → Belong m (x′ ∷ zs′) → m .elements .kind x ≡ m .elements .kind x′ → map (m .elements .kind) zs ≡ map (m .elements .kind) zs′ →
+      insert m x zs ≡ insert m x′ zs′ → (x ≡ x′) × (zs ≡ zs′)
+  insert-told x x′ [] [] h h′ k ks e =
+      let e1 = insert-alone m x in
+      let e2 = insert-alone m x′ in
+      (cc, refl)
+  insert-told x x′ [] (y′ ∷ zs′) h h′ k ks e = let z : _≡_ {A = ℕ} 0 1 = cc in absurd (omega arith)
+  insert-told x x′ (y ∷ zs) [] h h′ k ks e = let z : _≡_ {A = ℕ} 0 1 = cc in absurd (omega arith)
+  insert-told x x′ (y ∷ zs) (y′ ∷ zs′) h h′ k ks e =
+      split (cases-lt (m .elements .kind y) (m .elements .kind x)) (insert-told (p .0) (p′ .0) zs zs′ (hp .0, h .1 .1) (hp′ .0, h′ .1 .1) (kp ∙ (k ∙ sym kp′)) (cc))
+    where
+      p : E × E
+      p = m .cross y x
+      p′ : E × E
+      p′ = m .cross y′ x′
+      hp : T (m .elements .belongs (p .0)) × T (m .elements .belongs (p .1))
+      hp = l .crosses .belong y x (h .1 .0, h .0)
+      hp′ : T (m .elements .belongs (p′ .0)) × T (m .elements .belongs (p′ .1))
+      hp′ = l .crosses .belong y′ x′ (h′ .1 .0, h′ .0)
+      kp : m .elements .kind (p .0) ≡ m .elements .kind x
+      kp = l .crosses .left-kind y x (h .1 .0, h .0)
+      kp′ : m .elements .kind (p′ .0) ≡ m .elements .kind x′
+      kp′ = l .crosses .left-kind y′ x′ (h′ .1 .0, h′ .0)
+      ky : m .elements .kind y ≡ m .elements .kind y′
+      ky = cc
+      split : ((m .elements .kind y < m .elements .kind x) ⊎ (m .elements .kind x ≤ m .elements .kind y)) → (insert m (p .0) zs ≡ insert m (p′ .0) zs′ → (p .0 ≡ p′ .0) × (zs ≡ zs′)) → (x ≡ x′) × (_≡_ {A = List E} (y ∷ zs) (y′ ∷ zs′))
+      split (inl s) ih =
+          let e1 = insert-passes m x y zs s in
+          let e2 = insert-passes m x′ y′ zs′ (omega (arith, ky)) in
+          let rest = ih (cc) in
+          let first : p .1 ≡ p′ .1 = cc in
+          let pair : _≡_ {A = E × E} (y, x) (y′, x′) = sym (r .twice y x) ∙ (ap₂ (λ (a b : E). m .cross a b) (rest .0) first ∙ r .twice y′ x′) in
+          (ap (λ (t : E × E). t .1) pair, ap₂ (λ (t : E × E) (u : List E). t .0 ∷ u) pair (rest .1))
+      split (inr s) ih =
+          let e1 = insert-stays m x y zs s in
+          let e2 = insert-stays m x′ y′ zs′ (omega (arith, ky)) in
+          (cc, cc)
+
+  sorted-told : (xs ys : List E) → Belong m xs → Belong m ys → map (m .elements .kind) xs ≡ map (m .elements .kind) ys → sorted m xs ≡ sorted m ys → xs ≡ ys
+  unfolding sorted
+  sorted-told [] [] h h′ k e = refl
+  sorted-told [] (y ∷ ys) h h′ k e = let z : _≡_ {A = ℕ} 0 1 = cc in absurd (omega arith)
+  sorted-told (x ∷ xs) [] h h′ k e = let z : _≡_ {A = ℕ} 0 1 = cc in absurd (omega arith)
+  sorted-told (x ∷ xs) (y ∷ ys) h h′ k e =
+      let ks : map (m .elements .kind) xs ≡ map (m .elements .kind) ys = cc in
+      let same = kinds-sorted l xs (h .1) ∙ (ap placed ks ∙ sym (kinds-sorted l ys (h′ .1))) in
+      let first = insert-told x y (sorted m xs) (sorted m ys) (h .0, sorted-belong l xs (h .1)) (h′ .0, sorted-belong l ys (h′ .1)) (cc) same e in
+      ap₂ (λ (a : E) (as′ : List E). a ∷ as′) (first .0) (sorted-told xs ys (h .1) (h′ .1) ks (first .1))
+
+pub kinds-tell : {E : Type 0} {m : Meaning E} → Lawful m → Kinds-tell m
+kinds-tell l r xs ys moves h t k =
+    let s = sorted-turned l r xs ys moves h t in
+    sorted-told l r xs ys h (s .1) k (s .0)
