@@ -1,3 +1,5 @@
 pub mod Sweeps
 pub mod Reordering
 pub mod Insertion
+pub mod Rules
+pub mod Outcomes
