@@ -13,7 +13,7 @@ use Rattle.exchange.proofs.Layers.{uncross-is-cross}
 use Rattle.runs.specs.Sweeps.{Belong}
 use Rattle.runs.specs.Exchanges.{Move, Turns, Way, back, by, exchanged, forth}
 use Rattle.runs.specs.Theorems.{Kinds-tell}
-use Rattle.runs.proofs.Reordering.{exchanged-belong}
+use Rattle.runs.proofs.Reordering.{exchanged-belong, turned-belong}
 
 -- x, older than all of the list, moves past every carrier of smaller kind up to the first that is none
 insert : {E : Type 0} → Meaning E → E → List E → List E
@@ -176,12 +176,13 @@ module _ {E : Type 0} {m : Meaning E} (l : Lawful m) (r : Returning m) where
   by-is-cross forth = refl
   by-is-cross back = fun-ext (λ x. fun-ext (λ y. uncross-is-cross l r x y))
 
-  sorted-turned : (xs ys : List E) (moves : List Move) → Belong m xs → Turns m moves xs ys → (sorted m xs ≡ sorted m ys) × Belong m ys
-  sorted-turned xs ys [] h e = (ap (sorted m) e, subst (Belong m) e h)
+  sorted-turned : (xs ys : List E) (moves : List Move) → Belong m xs → Turns m moves xs ys → sorted m xs ≡ sorted m ys
+  sorted-turned xs ys [] h e = ap (sorted m) e
   sorted-turned xs ys (move ∷ moves) h t =
       let next = exchanged (by m (move .0)) (move .1) xs in
-      let rest = sorted-turned next ys moves (exchanged-belong l (move .0) (move .1) xs h) (t .1) in
-      (sym (sorted-exchanged (move .1) xs h) ∙ (sym (ap (λ (f : Exchange E). sorted m (exchanged f (move .1) xs)) (by-is-cross (move .0))) ∙ rest .0), rest .1)
+      sym (sorted-exchanged (move .1) xs h)
+      ∙ (sym (ap (λ (f : Exchange E). sorted m (exchanged f (move .1) xs)) (by-is-cross (move .0)))
+      ∙ sorted-turned next ys moves (exchanged-belong l (move .0) (move .1) xs h) (t .1))
 
   -- an insertion is undone when the kinds are known
   insert-told : (x x′ : E) (zs zs′ : List E) → Belong m (x ∷ zs) → Belong m (x′ ∷ zs′) → m .elements .kind x ≡ m .elements .kind x′ → map (m .elements .kind) zs ≡ map (m .elements .kind) zs′ →
@@ -234,6 +235,4 @@ module _ {E : Type 0} {m : Meaning E} (l : Lawful m) (r : Returning m) where
       ap₂ (λ (a : E) (as′ : List E). a ∷ as′) (first .0) (sorted-told xs ys (h .1) (h′ .1) ks (first .1))
 
 pub kinds-tell : {E : Type 0} {m : Meaning E} → Lawful m → Kinds-tell m
-kinds-tell l r xs ys moves h t k =
-    let s = sorted-turned l r xs ys moves h t in
-    sorted-told l r xs ys h (s .1) k (s .0)
+kinds-tell l r xs ys moves h t k = sorted-told l r xs ys h (turned-belong l xs ys moves h t) k (sorted-turned l r xs ys moves h t)

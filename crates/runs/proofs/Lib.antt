@@ -3,3 +3,5 @@ pub mod Reordering
 pub mod Insertion
 pub mod Rules
 pub mod Outcomes
+pub mod Steps
+pub mod Runs

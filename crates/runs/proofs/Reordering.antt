@@ -44,6 +44,10 @@ module _ {E : Type 0} {m : Meaning E} (l : Lawful m) where
   exchanged-belong w zero (x ∷ y ∷ zs) h = let p = by-exchanges w .belong y x (h .1 .0, h .0) in (p .1, (p .0, h .1 .1))
   exchanged-belong w (suc i) (x ∷ xs) h = (h .0, exchanged-belong w i xs (h .1))
 
+  pub turned-belong : (xs ys : List E) (moves : List Move) → Belong m xs → Turns m moves xs ys → Belong m ys
+  turned-belong xs ys [] h e = subst (Belong m) e h
+  turned-belong xs ys (move ∷ moves) h t = turned-belong (exchanged (by m (move .0)) (move .1) xs) ys moves (exchanged-belong (move .0) (move .1) xs h) (t .1)
+
   cross-passes : Passes m (m .cross)
   cross-passes y x [] hy h = refl
   cross-passes y x (b ∷ bs) hy h =
