@@ -8,12 +8,12 @@ use lib.Dec.{T}
 use lib.ListN.{getD}
 use native.Mathlib.Omega.{arith}
 use native.Mathlib.Decide.{decLe, decLt, ℕ-discrete}
-use Rattle.std.proofs.shelf.Tests.{both-ways, cases-order}
+use Rattle.std.proofs.shelf.Tests.{both-ways, cases-eq, cases-lt, cases-order}
 use Rattle.exchange.specs.Meaning.{Meaning}
 use Rattle.exchange.specs.declared.refusal.Refusal.{Refusal}
 use Rattle.exchange.specs.declared.refusal.Refusal.the-variants.{TooLong, NoElement, LogFull, LogEmpty, NoPlace, NotReturning, ShortMemory, Stray, WrongCarrier}
 use Rattle.runs.specs.Sweeps.{Belong, newest, taken}
-use Rattle.runs.specs.Exchanges.{Lacks}
+use Rattle.runs.specs.Exchanges.{Lacks, Way}
 use Rattle.runs.specs.Book.{Call, Counts, Grants, Ground, Lengths, Refuses, View, exchange, raise, rank, read, sweep, take-back}
 use Rattle.runs.specs.Book.{log-empty, log-full, no-element, no-next-place, no-such-kind, short-log, short-row, stray, uneven-log, wrong-carrier}
 
@@ -60,23 +60,45 @@ rank-log-rule (raise k) = refl
 abbrev pub Short : Counts → Lengths → Type 0
 Short n l = (l .row < n .boxes) ⊎ ((¬ (l .incoming ≡ l .outgoing)) ⊎ (l .incoming < n .sweeps))
 
+pub not-short : (n : Counts) (l : Lengths) → ¬ Short n l → (n .boxes ≤ l .row) × (l .incoming ≡ l .outgoing) × (n .sweeps ≤ l .incoming)
+not-short n l h = (row (cases-lt (l .row) (n .boxes)), even (cases-eq (l .incoming) (l .outgoing)), log (cases-lt (l .incoming) (n .sweeps)))
+  where
+    row : ((l .row < n .boxes) ⊎ (n .boxes ≤ l .row)) → n .boxes ≤ l .row
+    row (inl a) = absurd (h (inl a))
+    row (inr a) = a
+    even : ((l .incoming ≡ l .outgoing) ⊎ (l .incoming ≡ l .outgoing → ⊥)) → l .incoming ≡ l .outgoing
+    even (inl a) = a
+    even (inr a) = absurd (h (inr (inl a)))
+    log : ((l .incoming < n .sweeps) ⊎ (n .sweeps ≤ l .incoming)) → n .sweeps ≤ l .incoming
+    log (inl a) = absurd (h (inr (inr a)))
+    log (inr a) = a
+
 module _ {E : Type 0} {m : Meaning E} {n : Counts} {l : Lengths} {v : View E} where
-  ground-due : {call : Call E} {r : Refusal} → Ground m n l v call r → (r ≡ due call (rank r)) × (rank r < 6)
-  ground-due (short-row h) = (refl, omega arith)
-  ground-due (uneven-log h) = (refl, omega arith)
-  ground-due (short-log h) = (refl, omega arith)
-  ground-due (log-full h) = (refl, omega arith)
-  ground-due (log-empty h) = (refl, omega arith)
-  ground-due (no-next-place h) = (refl, omega arith)
-  ground-due (no-such-kind h) = (refl, omega arith)
-  ground-due (stray h) = (refl, omega arith)
-  ground-due (no-element h) = (refl, omega arith)
-  ground-due (wrong-carrier h) = (refl, omega arith)
+  ground-due : {call : Call E} {r : Refusal} → Ground m n l v call r → (r ≡ due call (rank r)) × (0 < rank r) × (rank r < 6)
+  ground-due (short-row h) = (refl, omega arith, omega arith)
+  ground-due (uneven-log h) = (refl, omega arith, omega arith)
+  ground-due (short-log h) = (refl, omega arith, omega arith)
+  ground-due (log-full h) = (refl, omega arith, omega arith)
+  ground-due (log-empty h) = (refl, omega arith, omega arith)
+  ground-due (no-next-place h) = (refl, omega arith, omega arith)
+  ground-due (no-such-kind h) = (refl, omega arith, omega arith)
+  ground-due (stray h) = (refl, omega arith, omega arith)
+  ground-due (no-element h) = (refl, omega arith, omega arith)
+  ground-due (wrong-carrier h) = (refl, omega arith, omega arith)
 
   pub short-parts : {call : Call E} → Ground m n l v call ShortMemory → Short n l
   short-parts (short-row h) = inl h
   short-parts (uneven-log h) = inr (inl h)
   short-parts (short-log h) = inr (inr h)
+
+  pub short-from : {call : Call E} → Short n l → Ground m n l v call ShortMemory
+  short-from (inl h) = short-row h
+  short-from (inr (inl h)) = uneven-log h
+  short-from (inr (inr h)) = short-log h
+
+  -- no rule comes before that of short memory
+  pub short-first : {call : Call E} → Ground m n l v call ShortMemory → Refuses m n l v call ShortMemory
+  short-first g = (g, λ s h f. absurd (omega (arith, ground-due f .1)))
 
   pub stray-part : {call : Call E} → Ground m n l v call Stray → ¬ Belong m (read m call v)
   stray-part (stray h) = h
@@ -90,7 +112,7 @@ module _ {E : Type 0} {m : Meaning E} {n : Counts} {l : Lengths} {v : View E} wh
       split (inr (inr h)) = absurd (below s h g′)
 
 module _ {E : Type 0} (m : Meaning E) (n : Counts) (l : Lengths) (v : View E) where
-  short? : (call : Call E) → Dec (Ground m n l v call ShortMemory)
+  pub short? : (call : Call E) → Dec (Ground m n l v call ShortMemory)
   short? call = split (decLt (l .row) (n .boxes)) (ℕ-discrete (l .incoming) (l .outgoing)) (decLt (l .incoming) (n .sweeps))
     where
       split : Dec (l .row < n .boxes) → Dec (l .incoming ≡ l .outgoing) → Dec (l .incoming < n .sweeps) → Dec (Ground m n l v call ShortMemory)
@@ -172,13 +194,41 @@ module _ {E : Type 0} (m : Meaning E) (n : Counts) (l : Lengths) (v : View E) wh
   pub verdict : (call : Call E) → ((r : Refusal) × Refuses m n l v call r) ⊎ Grants m n l v call
   unfolding Clear Verdict
   verdict call =
-      look call 0 (no (λ g. none g)) refl (λ s h. absurd (omega arith)) (λ c0.
-      look call 1 (short? call) refl c0 (λ c1.
+      look call 1 (short? call) refl (λ s h f. absurd (omega (arith, ground-due f .1))) (λ c1.
       look call 2 (log-rule? call) (rank-log-rule call) c1 (λ c2.
       look call 3 (stray? call) refl c2 (λ c3.
       look call 4 (no-element? call) refl c3 (λ c4.
       look call 5 (wrong-carrier? call) refl c4 (λ c5.
-      inr (λ r g. c5 r (ground-due g .1) g)))))))
+      inr (λ r g. c5 r (ground-due g .2) g))))))
+
+-- what a granted call finds
+module _ {E : Type 0} {m : Meaning E} {n : Counts} {l : Lengths} {v : View E} where
+  pub granted-belong : {call : Call E} → Grants m n l v call → Belong m (read m call v)
+  granted-belong {call} g = split (belong? m (read m call v))
     where
-      none : {c : Call E} → Ground m n l v c NotReturning → ⊥
-      none g = elim g [ ]
+      split : Dec (Belong m (read m call v)) → Belong m (read m call v)
+      split (yes h) = h
+      split (no h) = absurd (g Stray (stray h))
+
+  pub granted-carrier : {c : E} → Grants m n l v (sweep c) → T (m .elements .belongs c)
+  granted-carrier {c} g = split (m .elements .belongs c) refl
+    where
+      split : (b : Bool) → m .elements .belongs c ≡ b → T b
+      split true e = tt
+      split false e = absurd (g NoElement (no-element e))
+
+  pub granted-spare : {c : E} → Grants m n l v (sweep c) → n .sweeps < l .incoming
+  granted-spare g =
+      let a = not-short n l (λ q. g ShortMemory (short-from q)) .2 in
+      let b : ¬ (n .sweeps ≡ l .incoming) = λ e. g LogFull (log-full e) in
+      omega arith
+
+  pub granted-entry : Grants m n l v take-back → ¬ (n .sweeps ≡ 0)
+  granted-entry g e = g LogEmpty (log-empty e)
+
+  pub granted-place : {w : Way} {i : ℕ} → Grants m n l v (exchange w i) → suc i < n .sweeps
+  granted-place {w} {i} g = split (cases-lt (suc i) (n .sweeps))
+    where
+      split : ((suc i < n .sweeps) ⊎ (n .sweeps ≤ suc i)) → suc i < n .sweeps
+      split (inl h) = h
+      split (inr h) = absurd (g NoPlace (no-next-place h))

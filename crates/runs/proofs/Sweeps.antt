@@ -1,10 +1,20 @@
 -- Sweep and take-back keep elements and undo each other. Assumes nothing.
 use mathlib.Core.Path.{_≡_, refl, ap, _∙_}
 use mathlib.Core.List.{List, [], _∷_}
+use Prim.Native.Nat.{suc}
+use lib.ListN.{length}
 use Rattle.exchange.specs.Meaning.{Meaning}
 use Rattle.exchange.specs.Laws.{Lawful}
 use Rattle.runs.specs.Sweeps.{swept, taken}
 use Rattle.runs.specs.Theorems.{Belongs, Undo}
+
+pub length-swept : {E : Type 0} (m : Meaning E) (c : E) (row : List E) → length (swept m c row .0) ≡ length row
+length-swept m c [] = refl
+length-swept m c (b ∷ bs) = ap suc (length-swept m (m .cross c b .1) bs)
+
+pub length-taken : {E : Type 0} (m : Meaning E) (c : E) (row : List E) → length (taken m row c .1) ≡ length row
+length-taken m c [] = refl
+length-taken m c (b ∷ bs) = ap suc (length-taken m c bs)
 
 module _ {E : Type 0} {m : Meaning E} (l : Lawful m) where
   pub sweep-belongs : (c : E) (row : List E) → Belongs m c row → Belongs m (swept m c row .1) (swept m c row .0)
