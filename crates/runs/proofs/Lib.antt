@@ -1,4 +1,5 @@
 pub mod Sweeps
+pub mod Places
 pub mod Reordering
 pub mod Insertion
 pub mod Rules

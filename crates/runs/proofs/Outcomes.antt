@@ -13,7 +13,7 @@ use Rattle.runs.specs.Sweeps.{at, made, newest}
 use Rattle.runs.specs.Exchanges.{Lacks, Move, Raises, Turns, by, climb, exchanged}
 use Rattle.runs.specs.Book.{Answer, Booked, Call, Grants, Lengths, Outcome, Refuses, book, code, codes, counts-of, done, exchange, granted, no-such-kind, raise, refused, sweep, take-back, turned-away}
 use Rattle.runs.specs.Theorems.{One-outcome}
-use Rattle.runs.proofs.Reordering.{length-exchanged}
+use Rattle.runs.proofs.Places.{length-exchanged}
 use Rattle.runs.proofs.Rules.{lacks?, one-refusal, verdict}
 
 module _ {E : Type 0} (m : Meaning E) where

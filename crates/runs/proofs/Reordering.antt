@@ -11,18 +11,6 @@ use Rattle.runs.specs.Exchanges.{Move, Turns, Way, back, by, exchanged, forth}
 use Rattle.runs.specs.Theorems.{Belongs, Reordering}
 use Rattle.runs.proofs.Sweeps.{sweep-belongs}
 
-pub length-exchanged : {E : Type 0} (f : Exchange E) (i : ℕ) (xs : List E) → length (exchanged f i xs) ≡ length xs
-length-exchanged f i [] = refl
-length-exchanged f zero (x ∷ []) = refl
-length-exchanged f zero (x ∷ y ∷ zs) = refl
-length-exchanged f (suc i) (x ∷ xs) = ap suc (length-exchanged f i xs)
-
-pub length-turned : {E : Type 0} (m : Meaning E) (moves : List Move) (xs ys : List E) → Turns m moves xs ys → length ys ≡ length xs
-length-turned m [] xs ys t = ap length (sym t)
-length-turned m (move ∷ moves) xs ys t =
-    let f = by m (move .0) in
-    length-turned m moves (exchanged f (move .1) xs) ys (t .1) ∙ length-exchanged f (move .1) xs
-
 pub length-made : {E : Type 0} (m : Meaning E) (row xs : List E) → length (made m row xs .1) ≡ length xs
 length-made m row [] = refl
 length-made m row (x ∷ xs) = ap suc (length-made m (swept m x row .0) xs)

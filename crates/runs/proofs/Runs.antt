@@ -19,7 +19,8 @@ use Rattle.runs.specs.Book.{Answer, Booked, Call, Counts, Grants, Ground, Leng
 use Rattle.runs.specs.Calls.{Does, Done, Held, Leaves, Lifts, counts, lengths, refilled, view}
 use Rattle.runs.specs.Runs.{Book-run, Handed, Promise, Run, Said, Shows, after}
 use Rattle.runs.proofs.Insertion.{kinds-tell}
-use Rattle.runs.proofs.Reordering.{length-exchanged, length-made, length-turned}
+use Rattle.runs.proofs.Places.{length-exchanged, length-turned}
+use Rattle.runs.proofs.Reordering.{length-made}
 use Rattle.runs.proofs.Sweeps.{length-swept, length-taken}
 use Rattle.runs.proofs.Rules.{Short, granted-belong, granted-carrier, granted-entry, granted-place, granted-spare, not-short, one-refusal, short-first, short-from, short-parts, short?}
 use Rattle.runs.proofs.Steps.{Sound, exchange-step, raise-step, sweep-step, take-back-step, turned-made}

@@ -15,7 +15,7 @@ use Rattle.runs.specs.Sweeps.{Belong, made, newest, swept, taken}
 use Rattle.runs.specs.Exchanges.{Move, Raises, Turns, Way, by, exchanged}
 use Rattle.runs.specs.Book.{Answer, Booked, Call, View, code, codes, done, exchange, raise, sweep, take-back}
 use Rattle.runs.specs.Theorems.{Belongs}
-use Rattle.runs.proofs.Sweeps.{sweep-belongs, sweep-undone}
+use Rattle.runs.proofs.Sweeps.{made-append, sweep-belongs, sweep-undone}
 use Rattle.runs.proofs.Reordering.{exchanged-belong, length-made, made-exchanged, reordering, turned-belong}
 use Rattle.runs.proofs.Outcomes.{turns-alike}
 
@@ -33,10 +33,6 @@ unpush m xs h =
     let n = length xs - 1 in
     let e : n + 1 ≡ length xs = omega arith in
     sym (take-all (n + 1) xs (omega arith)) ∙ take-more xs n (m .elements .rest) (omega arith)
-
-made-push : {E : Type 0} (m : Meaning E) (row xs : List E) (x : E) → made m row (xs ++ (x ∷ [])) ≡ (swept m x (made m row xs .0) .0, made m row xs .1 ++ (swept m x (made m row xs .0) .1 ∷ []))
-made-push m row [] x = refl
-made-push {E} m row (y ∷ ys) x = ap (λ (r : List E × List E). (r .0, swept m y row .1 ∷ r .1)) (made-push m (swept m y row .0) ys x)
 
 belong-push : {E : Type 0} (m : Meaning E) (xs : List E) (x : E) → Belong m xs → T (m .elements .belongs x) → Belong m (xs ++ (x ∷ []))
 belong-push m [] x h k = (k, tt)
@@ -73,7 +69,7 @@ module _ {E : Type 0} {m : Meaning E} (l : Lawful m) where
     sweep-step c hc hr =
         let out = swept m c (v .row) in
         let pushed : _≡_ {A = List E × List E} (out .0, v .outgoing ++ (out .1 ∷ [])) (made m filled (v .incoming ++ (c ∷ []))) =
-              ap (λ (r : List E × List E). (swept m c (r .0) .0, r .1 ++ (swept m c (r .0) .1 ∷ []))) (s .is-made) ∙ sym (made-push m filled (v .incoming) c) in
+              ap (λ (r : List E × List E). (swept m c (r .0) .0, r .1 ++ (swept m c (r .0) .1 ∷ []))) (s .is-made) ∙ sym (made-append m filled (v .incoming) (c ∷ [])) in
         ((refl, ap (λ (x : E). code (m .elements .code x)) (sym (newest-push m (v .outgoing) (out .1)) ∙ ap (λ (r : List E × List E). newest m (r .1)) pushed)),
          record { is-made = pushed; carriers-belong = belong-push m (v .incoming) c (s .carriers-belong) hc; filled-belongs = inr (from (s .filled-belongs)) })
       where
@@ -93,7 +89,7 @@ module _ {E : Type 0} {m : Meaning E} (l : Lawful m) where
         let r = made m filled front in
         let w = swept m c (r .0) in
         let e0 = unpush m (v .incoming) h in
-        let e1 : _≡_ {A = List E × List E} (v .row, v .outgoing) (w .0, r .1 ++ (w .1 ∷ [])) = s .is-made ∙ (ap (made m filled) e0 ∙ made-push m filled front c) in
+        let e1 : _≡_ {A = List E × List E} (v .row, v .outgoing) (w .0, r .1 ++ (w .1 ∷ [])) = s .is-made ∙ (ap (made m filled) e0 ∙ made-append m filled front (c ∷ [])) in
         let hx = belong-pop m front c (subst (Belong m) e0 (s .carriers-belong)) in
         let hf = filled-holds h in
         let e2 : taken m (v .row) (newest m (v .outgoing)) ≡ (c, r .0) =

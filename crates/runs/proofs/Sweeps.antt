@@ -1,12 +1,12 @@
 -- Sweep and take-back keep elements and undo each other. Assumes nothing.
-use mathlib.Core.Path.{_≡_, refl, ap, _∙_}
-use mathlib.Core.List.{List, [], _∷_}
 use Prim.Native.Nat.{suc}
+use mathlib.Core.Path.{_≡_, refl, ap, _∙_}
+use mathlib.Core.List.{List, [], _∷_, _++_}
 use lib.ListN.{length}
 use Rattle.exchange.specs.Meaning.{Meaning}
 use Rattle.exchange.specs.Laws.{Lawful}
-use Rattle.runs.specs.Sweeps.{swept, taken}
-use Rattle.runs.specs.Theorems.{Belongs, Undo}
+use Rattle.runs.specs.Sweeps.{made, swept, taken}
+use Rattle.runs.specs.Theorems.{Belongs, In-turn, Undo}
 
 pub length-swept : {E : Type 0} (m : Meaning E) (c : E) (row : List E) → length (swept m c row .0) ≡ length row
 length-swept m c [] = refl
@@ -15,6 +15,25 @@ length-swept m c (b ∷ bs) = ap suc (length-swept m (m .cross c b .1) bs)
 pub length-taken : {E : Type 0} (m : Meaning E) (c : E) (row : List E) → length (taken m row c .1) ≡ length row
 length-taken m c [] = refl
 length-taken m c (b ∷ bs) = ap suc (length-taken m c bs)
+
+module _ {E : Type 0} (m : Meaning E) where
+  swept-append : (c : E) (near far : List E) → swept m c (near ++ far) ≡ (swept m c near .0 ++ swept m (swept m c near .1) far .0, swept m (swept m c near .1) far .1)
+  swept-append c [] far = refl
+  swept-append c (b ∷ bs) far = ap (λ (t : List E × E). (m .cross c b .0 ∷ t .0, t .1)) (swept-append (m .cross c b .1) bs far)
+
+  pub made-append : (row xs ys : List E) → made m row (xs ++ ys) ≡ (made m (made m row xs .0) ys .0, made m row xs .1 ++ made m (made m row xs .0) ys .1)
+  made-append row [] ys = refl
+  made-append row (x ∷ xs) ys = ap (λ (t : List E × List E). (t .0, swept m x row .1 ∷ t .1)) (made-append (swept m x row .0) xs ys)
+
+  pub in-turn : In-turn m
+  in-turn = record {
+    no-box = λ c. refl;
+    one-box = λ c b. refl;
+    more-boxes = swept-append;
+    no-carrier = λ row. refl;
+    one-carrier = λ row c. refl;
+    more-carriers = made-append;
+  }
 
 module _ {E : Type 0} {m : Meaning E} (l : Lawful m) where
   pub sweep-belongs : (c : E) (row : List E) → Belongs m c row → Belongs m (swept m c row .1) (swept m c row .0)

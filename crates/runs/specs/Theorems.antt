@@ -1,16 +1,39 @@
 -- What holds of sweeps, exchanges and the plain book over every lawful map. Assumes nothing.
+use Prim.Native.Nat.{ℕ, suc, _≤_, _<_}
 use mathlib.Core.Path.{_≡_}
-use mathlib.Core.List.{List, map}
+use mathlib.Core.List.{List, [], _∷_, _++_, map}
 use lib.Dec.{T}
+use lib.ListN.{getD, length}
 use Rattle.exchange.specs.Meaning.{Meaning}
 use Rattle.exchange.specs.Laws.{Returning}
 use Rattle.runs.specs.Sweeps.{Belong, made, swept, taken}
-use Rattle.runs.specs.Exchanges.{Move, Turns}
+use Rattle.runs.specs.Exchanges.{Move, Raises, Turns, Way, by, exchanged}
 use Rattle.runs.specs.Book.{Answer, Call, Lengths, Outcome}
 
 -- a carrier and a row of elements
 abbrev pub Belongs : {E : Type 0} → Meaning E → E → List E → Type 0
 Belongs m carrier row = T (m .elements .belongs carrier) × Belong m row
+
+-- a carrier meets the boxes from the first to the last, and the carriers follow one another
+pub record In-turn {E : Type 0} (m : Meaning E) : Type 0 where
+  pub no-box : (c : E) → swept m c [] ≡ ([], c)
+  pub one-box : (c b : E) → swept m c (b ∷ []) ≡ (m .cross c b .0 ∷ [], m .cross c b .1)
+  pub more-boxes : (c : E) (near far : List E) → swept m c (near ++ far) ≡ (swept m c near .0 ++ swept m (swept m c near .1) far .0, swept m (swept m c near .1) far .1)
+  pub no-carrier : (row : List E) → made m row [] ≡ (row, [])
+  pub one-carrier : (row : List E) (c : E) → made m row (c ∷ []) ≡ (swept m c row .0, swept m c row .1 ∷ [])
+  pub more-carriers : (row xs ys : List E) → made m row (xs ++ ys) ≡ (made m (made m row xs .0) ys .0, made m row xs .1 ++ made m (made m row xs .0) ys .1)
+
+-- an exchange at i makes of the left carrier at i + 1 and the right one at i the new left at i + 1 and the new right at i, and nothing else; without the place i + 1 it does nothing
+pub record At-a-place {E : Type 0} (m : Meaning E) : Type 0 where
+  pub same-length : (w : Way) (i : ℕ) (xs : List E) → length (exchanged (by m w) i xs) ≡ length xs
+  pub crossed : (w : Way) (i : ℕ) (xs : List E) (d : E) → suc i < length xs → (getD (exchanged (by m w) i xs) (suc i) d, getD (exchanged (by m w) i xs) i d) ≡ by m w (getD xs (suc i) d) (getD xs i d)
+  pub elsewhere : (w : Way) (i j : ℕ) (xs : List E) (d : E) → ¬ (j ≡ i) → ¬ (j ≡ suc i) → getD (exchanged (by m w) i xs) j d ≡ getD xs j d
+  pub no-place : (w : Way) (i : ℕ) (xs : List E) → length xs ≤ suc i → exchanged (by m w) i xs ≡ xs
+
+-- a raise takes the kind k from its newest place to the last and lets the later kinds follow; then there is nothing more to raise
+pub record Raising {E : Type 0} (m : Meaning E) : Type 0 where
+  pub kinds-after : (k : ℕ) (xs ys : List E) (moves : List Move) → Belong m xs → (r : Raises m k xs moves) → Turns m moves xs ys → map (m .elements .kind) ys ≡ map (m .elements .kind) (r .front) ++ (map (m .elements .kind) (r .later) ++ (k ∷ []))
+  pub raised-already : (k : ℕ) (xs ys : List E) (moves : List Move) → Belong m xs → Raises m k xs moves → Turns m moves xs ys → Raises m k ys []
 
 -- sweep and take-back give elements, and each undoes the other
 pub record Undo {E : Type 0} (m : Meaning E) : Type 0 where

@@ -1,11 +1,29 @@
 // The theorems, each the contract of a function that does nothing else.
 ghost use Rattle.runs.specs.Runs.{Promises};
-ghost use Rattle.runs.specs.Theorems.{Kinds-tell, One-outcome, Reordering, Undo};
+ghost use Rattle.runs.specs.Theorems.{At-a-place, In-turn, Kinds-tell, One-outcome, Raising, Reordering, Undo};
 use exchange::map::ExchangeMap;
+
+// A carrier meets the boxes in turn, and the carriers follow one another.
+pub fn sweeps_go_in_turn<M: ExchangeMap>(map: &M)
+    ensures { λ _. ⌜ In-turn (M·ExchangeMap .meaning (now (map .entry))) ⌝ }
+{
+}
 
 // A take-back undoes a sweep, and a sweep a take-back.
 pub fn sweeps_are_undone<M: ExchangeMap>(map: &M)
     ensures { λ _. ⌜ Undo (M·ExchangeMap .meaning (now (map .entry))) ⌝ }
+{
+}
+
+// What an exchange at a place does, place by place.
+pub fn exchanges_act_at_their_place<M: ExchangeMap>(map: &M)
+    ensures { λ _. ⌜ At-a-place (M·ExchangeMap .meaning (now (map .entry))) ⌝ }
+{
+}
+
+// A raise takes the newest carrier of its kind to the last place.
+pub fn raises_take_the_newest<M: ExchangeMap>(map: &M)
+    ensures { λ _. ⌜ Raising (M·ExchangeMap .meaning (now (map .entry))) ⌝ }
 {
 }
 
