@@ -16,6 +16,7 @@ use Rattle.runs.specs.Exchanges.{Move, Raises, Turns, Way, by, exchanged}
 use Rattle.runs.specs.Book.{Answer, Booked, Call, View, code, codes, done, exchange, raise, sweep, take-back}
 use Rattle.runs.specs.Theorems.{Belongs}
 use Rattle.runs.proofs.Sweeps.{made-append, sweep-belongs, sweep-undone}
+use Rattle.runs.proofs.Places.{unpush}
 use Rattle.runs.proofs.Reordering.{exchanged-belong, length-made, made-exchanged, reordering, turned-belong}
 use Rattle.runs.proofs.Outcomes.{turns-alike}
 
@@ -27,12 +28,6 @@ pub record Sound {E : Type 0} (m : Meaning E) (filled : List E) (v : View E) : T
 
 newest-push : {E : Type 0} (m : Meaning E) (xs : List E) (x : E) → newest m (xs ++ (x ∷ [])) ≡ x
 newest-push m xs x = getD-push xs x (m .elements .rest) (length (xs ++ (x ∷ [])) - 1) (omega (arith, length-push xs x))
-
-pub unpush : {E : Type 0} (m : Meaning E) (xs : List E) → ¬ (length xs ≡ 0) → xs ≡ take (length xs - 1) xs ++ (newest m xs ∷ [])
-unpush m xs h =
-    let n = length xs - 1 in
-    let e : n + 1 ≡ length xs = omega arith in
-    sym (take-all (n + 1) xs (omega arith)) ∙ take-more xs n (m .elements .rest) (omega arith)
 
 belong-push : {E : Type 0} (m : Meaning E) (xs : List E) (x : E) → Belong m xs → T (m .elements .belongs x) → Belong m (xs ++ (x ∷ []))
 belong-push m [] x h k = (k, tt)
