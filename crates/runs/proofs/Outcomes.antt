@@ -14,7 +14,7 @@ use Rattle.runs.specs.Exchanges.{Lacks, Move, Raises, Turns, by, climb, exchan
 use Rattle.runs.specs.Book.{Answer, Booked, Call, Grants, Lengths, Outcome, Refuses, book, code, codes, counts-of, done, exchange, granted, no-such-kind, raise, refused, sweep, take-back, turned-away}
 use Rattle.runs.specs.Theorems.{One-outcome}
 use Rattle.runs.proofs.Places.{length-exchanged}
-use Rattle.runs.proofs.Rules.{lacks?, one-refusal, verdict}
+use Rattle.runs.proofs.Rules.{granted-place, lacks?, one-refusal, verdict}
 
 module _ {E : Type 0} (m : Meaning E) where
   pub turns-alike : (moves : List Move) (xs ys zs : List E) → Turns m moves xs ys → Turns m moves xs zs → ys ≡ zs
@@ -78,7 +78,7 @@ module _ {E : Type 0} (m : Meaning E) where
   booked filled l take-back xs h = (take (length xs - 1) xs, code (m .elements .code (newest m xs)), (refl, refl))
   booked filled l (exchange w i) xs h =
       let ys = exchanged (by m w) i xs in
-      (ys, codes (m .elements .code (at m ys i)) (m .elements .code (at m ys (suc i))), (refl, refl))
+      (ys, codes (m .elements .code (at m ys i)) (m .elements .code (at m ys (suc i))), ((granted-place h, refl), refl))
   booked filled l (raise k) xs h =
       let t = raise-turns k xs (λ f. h _ (no-such-kind f)) in
       (t .0, done, (t .1, refl))
@@ -89,7 +89,7 @@ module _ {E : Type 0} (m : Meaning E) where
       (e, s .1 ∙ (ap (λ (us : List E). code (m .elements .code (newest m (made m filled us .1)))) e ∙ sym (t .1)))
   one-booked filled take-back xs ys zs a b s t = (s .0 ∙ sym (t .0), s .1 ∙ sym (t .1))
   one-booked filled (exchange w i) xs ys zs a b s t =
-      let e = s .0 ∙ sym (t .0) in
+      let e = turns-alike ((w, i) ∷ []) xs ys zs (s .0) (t .0) in
       (e, s .1 ∙ (ap (λ (us : List E). codes (m .elements .code (at m us i)) (m .elements .code (at m us (suc i)))) e ∙ sym (t .1)))
   one-booked filled (raise k) xs ys zs a b s t =
       let e = one-raise k xs (s .0 .0) (t .0 .0) (s .0 .1) (t .0 .1) in

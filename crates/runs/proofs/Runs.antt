@@ -173,7 +173,7 @@ module _ {E : Type 0} {m : Meaning E} (l : Lawful m) (filled : List E) (v : View
             (length-exchanged (by m w) i (view h .incoming) ∙ ap length (k .incoming-is)) (length-exchanged (by m w) i (view h .outgoing) ∙ ap length (k .outgoing-is))
           ∙ views refl (ap ex (k .incoming-is)) (ap ex (k .outgoing-is))))
         (sym (answer ∙ ap (λ (xs : List E). told (ex xs)) (k .incoming-is)))
-        ((refl, refl), exchange-step l filled v s w i (granted-place f))
+        (((granted-place f, refl), refl), exchange-step l filled v s w i (granted-place f))
 
   raise-next : (j : ℕ) (a : Answer) → Grants m (counts h) (lengths h) (view h) (raise j) → Done m (raise j) h h′ a → Next m filled v (raise j) (after v h′) a
   raise-next j a g (lift, answer) =

@@ -8,7 +8,7 @@ use Rattle.exchange.specs.Meaning.{Meaning}
 use Rattle.exchange.specs.declared.refusal.Refusal.{Refusal}
 use Rattle.exchange.specs.declared.refusal.Refusal.the-variants.{TooLong, BadForm, BadNumber, BadParameters, NoElement, RowFull, LogFull, LogEmpty, NoPlace, NotReturning, ShortMemory, Stray, WrongCarrier}
 use Rattle.runs.specs.Sweeps.{Belong, at, made, newest, taken}
-use Rattle.runs.specs.Exchanges.{Lacks, Move, Raises, Turns, Way, by, exchanged}
+use Rattle.runs.specs.Exchanges.{Lacks, Move, Raises, Turns, Way}
 
 pub data Call (E : Type 0) : Type 0 where
   sweep : E → Call E
@@ -93,7 +93,7 @@ book m filled xs = record { row = made m filled xs .0; incoming = xs; outgoing =
 abbrev pub Booked : {E : Type 0} → Meaning E → List E → Call E → List E → List E → Answer → Type 0
 Booked m filled (sweep carrier) xs ys a = (ys ≡ xs ++ (carrier ∷ [])) × (a ≡ code (m .elements .code (newest m (made m filled ys .1))))
 Booked m filled take-back xs ys a = (ys ≡ take (length xs - 1) xs) × (a ≡ code (m .elements .code (newest m xs)))
-Booked m filled (exchange w i) xs ys a = (ys ≡ exchanged (by m w) i xs) × (a ≡ codes (m .elements .code (at m ys i)) (m .elements .code (at m ys (suc i))))
+Booked m filled (exchange w i) xs ys a = Turns m ((w, i) ∷ []) xs ys × (a ≡ codes (m .elements .code (at m ys i)) (m .elements .code (at m ys (suc i))))
 Booked m filled (raise k) xs ys a = ((moves : List Move) × Raises m k xs moves × Turns m moves xs ys) × (a ≡ done)
 
 -- what a call makes of the book's list xs: the list ys and an answer
