@@ -4,5 +4,6 @@ pub mod Reordering
 pub mod Insertion
 pub mod Rules
 pub mod Outcomes
+pub mod Granting
 pub mod Steps
 pub mod Runs

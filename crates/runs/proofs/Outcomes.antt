@@ -42,7 +42,7 @@ module _ {E : Type 0} (m : Meaning E) where
       split (yes a) (yes b) further = ([], x, xs, refl, b, a)
       split (yes a) (no b) further = absurd (h (b, a))
 
-  raise-turns : (k : ℕ) (xs : List E) → ¬ Lacks m k xs → (ys : List E) × ((moves : List Move) × Raises m k xs moves × Turns m moves xs ys)
+  pub raise-turns : (k : ℕ) (xs : List E) → ¬ Lacks m k xs → (ys : List E) × ((moves : List Move) × Raises m k xs moves × Turns m moves xs ys)
   unfolding Newest
   raise-turns k xs h =
       let f = find k xs h in
@@ -51,7 +51,7 @@ module _ {E : Type 0} (m : Meaning E) where
       (t .0, (climb (length (f .0)) (length (f .2)),
         record { front = f .0; raised = f .1; later = f .2; parts = f .3; of-kind = f .4; none-later = f .5; climbs = refl }, t .1))
 
-  lacks-none : (k : ℕ) (front : List E) (x : E) (later : List E) → Lacks m k (front ++ (x ∷ later)) → ¬ (m .elements .kind x ≡ k)
+  pub lacks-none : (k : ℕ) (front : List E) (x : E) (later : List E) → Lacks m k (front ++ (x ∷ later)) → ¬ (m .elements .kind x ≡ k)
   lacks-none k [] x later h = h .0
   lacks-none k (y ∷ front) x later h = lacks-none k front x later (h .1)
 

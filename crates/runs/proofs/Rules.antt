@@ -15,6 +15,7 @@ use Rattle.exchange.specs.declared.refusal.Refusal.the-variants.{TooLong, NoEle
 use Rattle.runs.specs.Sweeps.{Belong, newest, taken}
 use Rattle.runs.specs.Exchanges.{Lacks, Way}
 use Rattle.runs.specs.Book.{Call, Counts, Grants, Ground, Lengths, Refuses, View, exchange, raise, rank, read, sweep, take-back}
+use Rattle.runs.specs.Theorems.{Reaches}
 use Rattle.runs.specs.Book.{log-empty, log-full, no-element, no-next-place, no-such-kind, short-log, short-row, stray, uneven-log, wrong-carrier}
 
 test : (b : Bool) → Dec (T b)
@@ -41,14 +42,18 @@ module _ {E : Type 0} (m : Meaning E) where
       both (yes a) d = no (λ h. h .0 a)
 
 -- the one refusal of each rank that a call can meet
-abbrev log-rule : {E : Type 0} → Call E → Refusal
+abbrev pub log-rule : {E : Type 0} → Call E → Refusal
 log-rule (sweep carrier) = LogFull
 log-rule take-back = LogEmpty
 log-rule (exchange w i) = NoPlace
 log-rule (raise k) = NoPlace
 
-abbrev due : {E : Type 0} → Call E → ℕ → Refusal
+abbrev pub due : {E : Type 0} → Call E → ℕ → Refusal
 due call k = getD (NotReturning ∷ ShortMemory ∷ log-rule call ∷ Stray ∷ NoElement ∷ WrongCarrier ∷ []) k TooLong
+
+-- no rule of a rank below k is broken
+abbrev pub Clear : {E : Type 0} → Meaning E → Counts → Lengths → View E → Call E → ℕ → Type 0
+Clear m n l v call k = (s : Refusal) → rank s < k → ¬ Ground m n l v call s
 
 rank-log-rule : {E : Type 0} (call : Call E) → rank (log-rule call) ≡ 2
 rank-log-rule (sweep carrier) = refl
@@ -60,7 +65,7 @@ rank-log-rule (raise k) = refl
 abbrev pub Short : Counts → Lengths → Type 0
 Short n l = (l .row < n .boxes) ⊎ ((¬ (l .incoming ≡ l .outgoing)) ⊎ (l .incoming < n .sweeps))
 
-pub not-short : (n : Counts) (l : Lengths) → ¬ Short n l → (n .boxes ≤ l .row) × (l .incoming ≡ l .outgoing) × (n .sweeps ≤ l .incoming)
+pub not-short : (n : Counts) (l : Lengths) → ¬ Short n l → Reaches n l
 not-short n l h = (row (cases-lt (l .row) (n .boxes)), even (cases-eq (l .incoming) (l .outgoing)), log (cases-lt (l .incoming) (n .sweeps)))
   where
     row : ((l .row < n .boxes) ⊎ (n .boxes ≤ l .row)) → n .boxes ≤ l .row
@@ -96,9 +101,23 @@ module _ {E : Type 0} {m : Meaning E} {n : Counts} {l : Lengths} {v : View E} wh
   short-from (inr (inl h)) = uneven-log h
   short-from (inr (inr h)) = short-log h
 
+  pub clear-start : (call : Call E) → Clear m n l v call 1
+  clear-start call s h g = omega (arith, ground-due g .1)
+
+  pub clear-more : (call : Call E) (k : ℕ) → Clear m n l v call k → ¬ Ground m n l v call (due call k) → Clear m n l v call (suc k)
+  clear-more call k clear none s h g = split (cases-order (rank s) k)
+    where
+      split : ((rank s ≡ k) ⊎ ((rank s < k) ⊎ (k < rank s))) → ⊥
+      split (inl q) = none (subst (Ground m n l v call) (ground-due g .0 ∙ ap (due call) q) g)
+      split (inr (inl q)) = clear s q g
+      split (inr (inr q)) = omega arith
+
+  pub clear-all : (call : Call E) → Clear m n l v call 6 → Grants m n l v call
+  clear-all call clear r g = clear r (ground-due g .2) g
+
   -- no rule comes before that of short memory
   pub short-first : {call : Call E} → Ground m n l v call ShortMemory → Refuses m n l v call ShortMemory
-  short-first g = (g, λ s h f. absurd (omega (arith, ground-due f .1)))
+  short-first {call} g = (g, clear-start call)
 
   pub stray-part : {call : Call E} → Ground m n l v call Stray → ¬ Belong m (read m call v)
   stray-part (stray h) = h
@@ -170,36 +189,24 @@ module _ {E : Type 0} (m : Meaning E) (n : Counts) (l : Lengths) (v : View E) wh
   wrong-carrier? (exchange w i) = no (λ g. elim g [ ])
   wrong-carrier? (raise k) = no (λ g. elim g [ ])
 
-  -- no rule of a rank below k is broken
-  Clear : Call E → ℕ → Type 0
-  Clear call k = (s : Refusal) → rank s < k → ¬ Ground m n l v call s
-
   Verdict : Call E → Type 0
   Verdict call = ((r : Refusal) × Refuses m n l v call r) ⊎ Grants m n l v call
 
   -- one rule more, and what is said if all up to it are kept
-  look : (call : Call E) (k : ℕ) → Dec (Ground m n l v call (due call k)) → rank (due call k) ≡ k → Clear call k → (Clear call (suc k) → Verdict call) → Verdict call
-  unfolding Clear Verdict
+  look : (call : Call E) (k : ℕ) → Dec (Ground m n l v call (due call k)) → rank (due call k) ≡ k → Clear m n l v call k → (Clear m n l v call (suc k) → Verdict call) → Verdict call
+  unfolding Verdict
   look call k (yes g) e clear more = inl (due call k, (g, λ s h. clear s (subst (λ (j : ℕ). rank s < j) e h)))
-  look call k (no g) e clear more = more past
-    where
-      past : (s : Refusal) → rank s < suc k → ¬ Ground m n l v call s
-      past s h f = split (cases-order (rank s) k)
-        where
-          split : ((rank s ≡ k) ⊎ ((rank s < k) ⊎ (k < rank s))) → ⊥
-          split (inl q) = g (subst (Ground m n l v call) (ground-due f .0 ∙ ap (due call) q) f)
-          split (inr (inl q)) = clear s q f
-          split (inr (inr q)) = omega arith
+  look call k (no g) e clear more = more (clear-more call k clear g)
 
   pub verdict : (call : Call E) → ((r : Refusal) × Refuses m n l v call r) ⊎ Grants m n l v call
-  unfolding Clear Verdict
+  unfolding Verdict
   verdict call =
-      look call 1 (short? call) refl (λ s h f. absurd (omega (arith, ground-due f .1))) (λ c1.
+      look call 1 (short? call) refl (clear-start call) (λ c1.
       look call 2 (log-rule? call) (rank-log-rule call) c1 (λ c2.
       look call 3 (stray? call) refl c2 (λ c3.
       look call 4 (no-element? call) refl c3 (λ c4.
       look call 5 (wrong-carrier? call) refl c4 (λ c5.
-      inr (λ r g. c5 r (ground-due g .2) g))))))
+      inr (clear-all call c5))))))
 
 -- what a granted call finds
 module _ {E : Type 0} {m : Meaning E} {n : Counts} {l : Lengths} {v : View E} where

@@ -1,14 +1,15 @@
 -- What holds of sweeps, exchanges and the plain book over every lawful map. Assumes nothing.
 use Prim.Native.Nat.{ℕ, suc, _≤_, _<_}
 use mathlib.Core.Path.{_≡_}
+use mathlib.Core.Logic.{_↔_}
 use mathlib.Core.List.{List, [], _∷_, _++_, map}
 use lib.Dec.{T}
 use lib.ListN.{getD, length}
 use Rattle.exchange.specs.Meaning.{Meaning}
 use Rattle.exchange.specs.Laws.{Returning}
-use Rattle.runs.specs.Sweeps.{Belong, made, swept, taken}
+use Rattle.runs.specs.Sweeps.{Belong, at, made, newest, swept, taken}
 use Rattle.runs.specs.Exchanges.{Move, Raises, Turns, Way, by, exchanged}
-use Rattle.runs.specs.Book.{Answer, Call, Lengths, Outcome}
+use Rattle.runs.specs.Book.{Answer, Call, Counts, Grants, Lengths, Outcome, View, exchange, raise, sweep, take-back}
 
 -- a carrier and a row of elements
 abbrev pub Belongs : {E : Type 0} → Meaning E → E → List E → Type 0
@@ -54,3 +55,20 @@ Kinds-tell {E = E} m = Returning m → (xs ys : List E) (moves : List Move) → 
 pub record One-outcome {E : Type 0} (m : Meaning E) : Type 0 where
   pub some : (filled : List E) (l : Lengths) (call : Call E) (xs : List E) → (ys : List E) × (a : Answer) × Outcome m filled l call xs ys a
   pub one : (filled : List E) (l : Lengths) (call : Call E) (xs ys zs : List E) (a b : Answer) → Outcome m filled l call xs ys a → Outcome m filled l call xs zs b → (ys ≡ zs) × (a ≡ b)
+
+-- memory that reaches: a row of no fewer places than boxes, and two halves of one length, of no fewer places than sweeps
+abbrev pub Reaches : Counts → Lengths → Type 0
+Reaches n l = (n .boxes ≤ l .row) × (l .incoming ≡ l .outgoing) × (n .sweeps ≤ l .incoming)
+
+-- what a call must find besides
+abbrev pub Finds : {E : Type 0} → Meaning E → Counts → Lengths → View E → Call E → Type 0
+Finds m n l v (sweep carrier) = (n .sweeps < l .incoming) × Belongs m carrier (v .row)
+Finds m n l v take-back = (0 < n .sweeps) × Belongs m (newest m (v .outgoing)) (v .row) × T (m .elements .belongs (newest m (v .incoming)))
+    × (m .elements .code (taken m (v .row) (newest m (v .outgoing)) .0) ≡ m .elements .code (newest m (v .incoming)))
+Finds m n l v (exchange w i) = (suc i < n .sweeps) × T (m .elements .belongs (at m (v .incoming) i)) × T (m .elements .belongs (at m (v .incoming) (suc i)))
+    × T (m .elements .belongs (at m (v .outgoing) i)) × T (m .elements .belongs (at m (v .outgoing) (suc i)))
+Finds m n l v (raise k) = ((moves : List Move) × Raises m k (v .incoming) moves) × Belong m (v .incoming) × Belong m (v .outgoing)
+
+-- a call is granted exactly when its memory reaches and it finds what it must
+abbrev pub Granting : {E : Type 0} → Meaning E → Type 0
+Granting {E = E} m = (n : Counts) (l : Lengths) (v : View E) (call : Call E) → Grants m n l v call ↔ (Reaches n l × Finds m n l v call)

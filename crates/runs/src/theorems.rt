@@ -1,6 +1,6 @@
 // The theorems, each the contract of a function that does nothing else.
 ghost use Rattle.runs.specs.Runs.{Promises};
-ghost use Rattle.runs.specs.Theorems.{At-a-place, In-turn, Kinds-tell, One-outcome, Raising, Reordering, Undo};
+ghost use Rattle.runs.specs.Theorems.{At-a-place, Granting, In-turn, Kinds-tell, One-outcome, Raising, Reordering, Undo};
 use exchange::map::ExchangeMap;
 
 // A carrier meets the boxes in turn, and the carriers follow one another.
@@ -36,6 +36,12 @@ pub fn reordering_changes_nothing<M: ExchangeMap>(map: &M)
 // Over a returning map, carriers are told by their kinds and by how they can be reordered.
 pub fn kinds_tell_carriers<M: ExchangeMap>(map: &M)
     ensures { λ _. ⌜ Kinds-tell (M·ExchangeMap .meaning (now (map .entry))) ⌝ }
+{
+}
+
+// When a call is granted.
+pub fn calls_are_granted_when_all_is_found<M: ExchangeMap>(map: &M)
+    ensures { λ _. ⌜ Granting (M·ExchangeMap .meaning (now (map .entry))) ⌝ }
 {
 }
 
