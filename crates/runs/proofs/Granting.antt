@@ -1,9 +1,8 @@
 -- A call is granted exactly when its memory reaches and it finds what it must. Assumes nothing.
-use Prim.Native.Nat.{ℕ, suc, _≤_, _<_}
-use mathlib.Core.Path.{_≡_, sym, subst}
-use mathlib.Core.Bool.{false}
+use Prim.Native.Nat.{ℕ}
+use mathlib.Core.Path.{_≡_, subst}
 use mathlib.Core.Logic.{_↔_}
-use mathlib.Core.List.{List, [], _∷_, _++_}
+use mathlib.Core.List.{List}
 use lib.Dec.{T}
 use native.Mathlib.Omega.{arith}
 use native.Mathlib.Decide.{ℕ-discrete}
@@ -15,16 +14,9 @@ use Rattle.runs.specs.Exchanges.{Lacks, Move, Raises}
 use Rattle.runs.specs.Book.{Call, Counts, Grants, Ground, Lengths, View, exchange, raise, read, sweep, take-back}
 use Rattle.runs.specs.Book.{log-empty, log-full, no-element, no-next-place, no-such-kind, short-log, short-row, stray, uneven-log, wrong-carrier}
 use Rattle.runs.specs.Theorems.{Finds, Granting, Reaches}
+use Rattle.runs.proofs.Sweeps.{append-belong, belong-append}
 use Rattle.runs.proofs.Rules.{granted-belong, granted-carrier, granted-entry, granted-place, granted-spare, not-short, short-from}
 use Rattle.runs.proofs.Outcomes.{lacks-none, raise-turns}
-
-pub belong-append : {E : Type 0} (m : Meaning E) (xs ys : List E) → Belong m xs → Belong m ys → Belong m (xs ++ ys)
-belong-append m [] ys h k = k
-belong-append m (x ∷ xs) ys h k = (h .0, belong-append m xs ys (h .1) k)
-
-pub append-belong : {E : Type 0} (m : Meaning E) (xs ys : List E) → Belong m (xs ++ ys) → Belong m xs × Belong m ys
-append-belong m [] ys h = (tt, h)
-append-belong m (x ∷ xs) ys h = let r = append-belong m xs ys (h .1) in ((h .0, r .0), r .1)
 
 module _ {E : Type 0} (m : Meaning E) (n : Counts) (l : Lengths) (v : View E) where
   found-read : (call : Call E) → Finds m n l v call → Belong m (read m call v)

@@ -5,7 +5,7 @@ use mathlib.Core.List.{List, [], _∷_}
 use lib.Dec.{T}
 use lib.ListN.{length}
 use Rattle.exchange.specs.Meaning.{Exchange, Meaning}
-use Rattle.exchange.specs.Laws.{Exchanges, Lawful, first, last}
+use Rattle.exchange.specs.Laws.{Exchanges, Lawful}
 use Rattle.runs.specs.Sweeps.{Belong, made, swept}
 use Rattle.runs.specs.Exchanges.{Move, Turns, Way, back, by, exchanged, forth}
 use Rattle.runs.specs.Theorems.{Belongs, Reordering}

@@ -1,22 +1,20 @@
 -- Every run keeps the promise. Assumes nothing.
-use Prim.Native.Nat.{ℕ, suc, _+_, _-_, _≤_, _<_}
+use Prim.Native.Nat.{ℕ, suc, _-_, _≤_, _<_}
 use mathlib.Core.Path.{_≡_, refl, sym, ap, ap₂, subst, subst₂, _∙_}
-use mathlib.Core.Bool.{Bool, true, false}
-use mathlib.Core.Logic.{_⊎_, inl, inr}
+use mathlib.Core.Logic.{inl}
 use mathlib.Core.List.{List, [], _∷_, _++_, map}
 use lib.ListN.{drop, length, set, take, take-append-drop}
 use native.Mathlib.Omega.{arith}
-use lib.Dec.{T}
 use lib.Seq.{take-suc-set}
 use Rattle.std.proofs.shelf.Lists.{append-nil, drop-all, length-append, length-set, take-all, take-at, take-take}
 use Rattle.exchange.specs.Meaning.{Meaning}
-use Rattle.exchange.specs.Laws.{Lawful, Returning}
+use Rattle.exchange.specs.Laws.{Lawful}
 use Rattle.exchange.specs.declared.refusal.Refusal.{Refusal}
 use Rattle.exchange.specs.declared.refusal.Refusal.the-variants.{ShortMemory}
-use Rattle.runs.specs.Sweeps.{Belong, at, made, newest, swept, taken}
-use Rattle.runs.specs.Exchanges.{Move, Raises, Turns, Way, by, exchanged}
-use Rattle.runs.specs.Book.{Answer, Booked, Call, Counts, Grants, Ground, Lengths, Outcome, Refuses, View, book, code, codes, counts-of, done, exchange, raise, refused, sweep, take-back}
-use Rattle.runs.specs.Calls.{Does, Done, Held, Leaves, Lifts, counts, lengths, refilled, view}
+use Rattle.runs.specs.Sweeps.{at, made, newest, swept, taken}
+use Rattle.runs.specs.Exchanges.{Raises, Turns, Way, by, exchanged}
+use Rattle.runs.specs.Book.{Answer, Booked, Call, Counts, Grants, Ground, Outcome, Refuses, View, book, code, codes, counts-of, exchange, raise, sweep, take-back}
+use Rattle.runs.specs.Calls.{Does, Done, Held, Leaves, counts, lengths, refilled, view}
 use Rattle.runs.specs.Runs.{Book-run, Handed, Promise, Run, Said, Shows, after}
 use Rattle.runs.proofs.Insertion.{kinds-tell}
 use Rattle.runs.proofs.Places.{length-exchanged, length-turned}

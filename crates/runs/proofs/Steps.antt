@@ -1,21 +1,18 @@
 -- What a granted call makes of a view that the plain book could have. Assumes nothing.
-use Prim.Native.Nat.{ℕ, zero, suc, _+_, _-_, _≤_, _<_}
+use Prim.Native.Nat.{ℕ, suc, _-_, _<_}
 use mathlib.Core.Path.{_≡_, refl, sym, ap, ap₂, subst, _∙_}
-use mathlib.Core.Bool.{Bool, true, false}
 use mathlib.Core.Logic.{_⊎_, inl, inr}
 use mathlib.Core.List.{List, [], _∷_, _++_}
 use lib.Dec.{T}
-use lib.ListN.{getD, length, take}
+use lib.ListN.{length, take}
 use native.Mathlib.Omega.{arith}
-use native.Mathlib.Numerals.{add-one}
-use Rattle.std.proofs.shelf.Lists.{getD-push, length-append, length-push, length-take-le, take-all, take-at, take-more}
+use Rattle.std.proofs.shelf.Lists.{getD-push, length-append, length-push, length-take-le, take-at}
 use Rattle.exchange.specs.Meaning.{Meaning}
 use Rattle.exchange.specs.Laws.{Lawful}
 use Rattle.runs.specs.Sweeps.{Belong, made, newest, swept, taken}
 use Rattle.runs.specs.Exchanges.{Move, Raises, Turns, Way, by, exchanged}
-use Rattle.runs.specs.Book.{Answer, Booked, Call, View, code, codes, done, exchange, raise, sweep, take-back}
-use Rattle.runs.specs.Theorems.{Belongs}
-use Rattle.runs.proofs.Sweeps.{made-append, sweep-belongs, sweep-undone}
+use Rattle.runs.specs.Book.{Booked, View, code, sweep, take-back}
+use Rattle.runs.proofs.Sweeps.{append-belong, belong-append, made-append, sweep-belongs, sweep-undone}
 use Rattle.runs.proofs.Places.{unpush}
 use Rattle.runs.proofs.Reordering.{exchanged-belong, length-made, made-exchanged, reordering, turned-belong}
 use Rattle.runs.proofs.Outcomes.{turns-alike}
@@ -28,14 +25,6 @@ pub record Sound {E : Type 0} (m : Meaning E) (filled : List E) (v : View E) : T
 
 newest-push : {E : Type 0} (m : Meaning E) (xs : List E) (x : E) → newest m (xs ++ (x ∷ [])) ≡ x
 newest-push m xs x = getD-push xs x (m .elements .rest) (length (xs ++ (x ∷ [])) - 1) (omega (arith, length-push xs x))
-
-belong-push : {E : Type 0} (m : Meaning E) (xs : List E) (x : E) → Belong m xs → T (m .elements .belongs x) → Belong m (xs ++ (x ∷ []))
-belong-push m [] x h k = (k, tt)
-belong-push m (y ∷ ys) x h k = (h .0, belong-push m ys x (h .1) k)
-
-belong-pop : {E : Type 0} (m : Meaning E) (xs : List E) (x : E) → Belong m (xs ++ (x ∷ [])) → Belong m xs × T (m .elements .belongs x)
-belong-pop m [] x h = (tt, h .0)
-belong-pop m (y ∷ ys) x h = let r = belong-pop m ys x (h .1) in ((h .0, r .0), r .1)
 
 module _ {E : Type 0} {m : Meaning E} (l : Lawful m) where
   made-belong : (row xs : List E) → Belong m row → Belong m xs → Belong m (made m row xs .0)
@@ -66,7 +55,7 @@ module _ {E : Type 0} {m : Meaning E} (l : Lawful m) where
         let pushed : _≡_ {A = List E × List E} (out .0, v .outgoing ++ (out .1 ∷ [])) (made m filled (v .incoming ++ (c ∷ []))) =
               ap (λ (r : List E × List E). (swept m c (r .0) .0, r .1 ++ (swept m c (r .0) .1 ∷ []))) (s .is-made) ∙ sym (made-append m filled (v .incoming) (c ∷ [])) in
         ((refl, ap (λ (x : E). code (m .elements .code x)) (sym (newest-push m (v .outgoing) (out .1)) ∙ ap (λ (r : List E × List E). newest m (r .1)) pushed)),
-         record { is-made = pushed; carriers-belong = belong-push m (v .incoming) c (s .carriers-belong) hc; filled-belongs = inr (from (s .filled-belongs)) })
+         record { is-made = pushed; carriers-belong = belong-append m (v .incoming) (c ∷ []) (s .carriers-belong) (hc, tt); filled-belongs = inr (from (s .filled-belongs)) })
       where
         from : ((v .incoming ≡ []) ⊎ Belong m filled) → Belong m filled
         from (inl e) = subst (Belong m) (ap (λ (r : List E × List E). r .0) (s .is-made) ∙ ap (λ (xs : List E). made m filled xs .0) e) hr
@@ -85,11 +74,11 @@ module _ {E : Type 0} {m : Meaning E} (l : Lawful m) where
         let w = swept m c (r .0) in
         let e0 = unpush m (v .incoming) h in
         let e1 : _≡_ {A = List E × List E} (v .row, v .outgoing) (w .0, r .1 ++ (w .1 ∷ [])) = s .is-made ∙ (ap (made m filled) e0 ∙ made-append m filled front (c ∷ [])) in
-        let hx = belong-pop m front c (subst (Belong m) e0 (s .carriers-belong)) in
+        let hx = append-belong m front (c ∷ []) (subst (Belong m) e0 (s .carriers-belong)) in
         let hf = filled-holds h in
         let e2 : taken m (v .row) (newest m (v .outgoing)) ≡ (c, r .0) =
               ap (λ (p : List E × List E). taken m (p .0) (newest m (p .1))) e1
-              ∙ (ap (taken m (w .0)) (newest-push m (r .1) (w .1)) ∙ sweep-undone l c (r .0) (hx .1, made-belong filled front hf (hx .0))) in
+              ∙ (ap (taken m (w .0)) (newest-push m (r .1) (w .1)) ∙ sweep-undone l c (r .0) (hx .1 .0, made-belong filled front hf (hx .0))) in
         let long : length (r .1) ≡ n = length-made m filled front ∙ length-take-le n (v .incoming) (omega arith) in
         let e3 : take n (v .outgoing) ≡ r .1 = ap (λ (p : List E × List E). take n (p .1)) e1 ∙ take-at (r .1) (w .1 ∷ []) n long in
         ((refl, ap (λ (p : E × List E). code (m .elements .code (p .0))) e2),

@@ -5,8 +5,16 @@ use mathlib.Core.List.{List, [], _∷_, _++_}
 use lib.ListN.{length}
 use Rattle.exchange.specs.Meaning.{Meaning}
 use Rattle.exchange.specs.Laws.{Lawful}
-use Rattle.runs.specs.Sweeps.{made, swept, taken}
+use Rattle.runs.specs.Sweeps.{Belong, made, swept, taken}
 use Rattle.runs.specs.Theorems.{Belongs, In-turn, Undo}
+
+pub belong-append : {E : Type 0} (m : Meaning E) (xs ys : List E) → Belong m xs → Belong m ys → Belong m (xs ++ ys)
+belong-append m [] ys h k = k
+belong-append m (x ∷ xs) ys h k = (h .0, belong-append m xs ys (h .1) k)
+
+pub append-belong : {E : Type 0} (m : Meaning E) (xs ys : List E) → Belong m (xs ++ ys) → Belong m xs × Belong m ys
+append-belong m [] ys h = (tt, h)
+append-belong m (x ∷ xs) ys h = let r = append-belong m xs ys (h .1) in ((h .0, r .0), r .1)
 
 pub length-swept : {E : Type 0} (m : Meaning E) (c : E) (row : List E) → length (swept m c row .0) ≡ length row
 length-swept m c [] = refl
