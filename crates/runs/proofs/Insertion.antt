@@ -53,6 +53,7 @@ module _ {E : Type 0} {m : Meaning E} (l : Lawful m) where
     where
       p : T (m .elements .belongs (m .cross y x .0)) × T (m .elements .belongs (m .cross y x .1))
       p = l .crosses .belong y x (h .0, hx)
+
       split : ((m .elements .kind y < m .elements .kind x) ⊎ (m .elements .kind x ≤ m .elements .kind y)) → Belong m (insert m (m .cross y x .0) zs) → Belong m (insert m x (y ∷ zs))
       split (inl s) r = subst (Belong m) (sym (insert-passes m x y zs s)) (p .1, r)
       split (inr s) r = subst (Belong m) (sym (insert-stays m x y zs s)) (hx, h)
@@ -74,32 +75,46 @@ module _ {E : Type 0} {m : Meaning E} (l : Lawful m) where
     where
       kz : ℕ
       kz = m .elements .kind z
+
       p : E × E
       p = m .cross y x
+
       q : E × E
       q = m .cross z (p .0)
+
       r : E × E
       r = m .cross z y
+
       s′ : E × E
       s′ = m .cross (r .1) x
+
       hp : T (m .elements .belongs (p .0)) × T (m .elements .belongs (p .1))
       hp = l .crosses .belong y x (hy, hx)
+
       hr : T (m .elements .belongs (r .0)) × T (m .elements .belongs (r .1))
       hr = l .crosses .belong z y (h .0, hy)
+
       hs : T (m .elements .belongs (s′ .0)) × T (m .elements .belongs (s′ .1))
       hs = l .crosses .belong (r .1) x (hr .1, hx)
+
       ka : m .elements .kind (p .1) ≡ m .elements .kind y
       ka = l .crosses .right-kind y x (hy, hx)
+
       kb : m .elements .kind (p .0) ≡ m .elements .kind x
       kb = l .crosses .left-kind y x (hy, hx)
+
       kq : m .elements .kind (q .1) ≡ kz
       kq = l .crosses .right-kind z (p .0) (h .0, hp .0)
+
       kr : m .elements .kind (r .0) ≡ m .elements .kind y
       kr = l .crosses .left-kind z y (h .0, hy)
+
       kr′ : m .elements .kind (r .1) ≡ kz
       kr′ = l .crosses .right-kind z y (h .0, hy)
+
       ks : m .elements .kind (s′ .0) ≡ m .elements .kind x
       ks = l .crosses .left-kind (r .1) x (hr .1, hx)
+
       split : ((kz < m .elements .kind y) ⊎ (m .elements .kind y ≤ kz)) → ((kz < m .elements .kind x) ⊎ (m .elements .kind x ≤ kz)) →
           insert m (m .cross (r .0) (s′ .0) .1) (insert m (m .cross (r .0) (s′ .0) .0) zs) ≡ insert m (s′ .0) (insert m (r .0) zs) →
           insert m (p .1) (insert m (p .0) (z ∷ zs)) ≡ insert m x (insert m y (z ∷ zs))
@@ -157,12 +172,16 @@ module _ {E : Type 0} {m : Meaning E} (l : Lawful m) (r : Returning m) where
     where
       p : E × E
       p = m .cross y x
+
       hp : T (m .elements .belongs (p .0)) × T (m .elements .belongs (p .1))
       hp = l .crosses .belong y x (h .1 .0, h .0)
+
       hz : Belong m (sorted m zs)
       hz = sorted-belong l zs (h .1 .1)
+
       insert2 : E × E → List E
       insert2 t = insert m (t .1) (insert m (t .0) (sorted m zs))
+
       split : ((m .elements .kind y ≡ m .elements .kind x) ⊎ ((m .elements .kind y < m .elements .kind x) ⊎ (m .elements .kind x < m .elements .kind y))) → insert2 p ≡ insert2 (y, x)
       split (inl e) = ap insert2 (r .alike y x e)
       split (inr (inl s)) = insert-exchanged l x y (sorted m zs) (h .0) (h .1 .0) hz s
@@ -198,18 +217,25 @@ module _ {E : Type 0} {m : Meaning E} (l : Lawful m) (r : Returning m) where
     where
       p : E × E
       p = m .cross y x
+
       p′ : E × E
       p′ = m .cross y′ x′
+
       hp : T (m .elements .belongs (p .0)) × T (m .elements .belongs (p .1))
       hp = l .crosses .belong y x (h .1 .0, h .0)
+
       hp′ : T (m .elements .belongs (p′ .0)) × T (m .elements .belongs (p′ .1))
       hp′ = l .crosses .belong y′ x′ (h′ .1 .0, h′ .0)
+
       kp : m .elements .kind (p .0) ≡ m .elements .kind x
       kp = l .crosses .left-kind y x (h .1 .0, h .0)
+
       kp′ : m .elements .kind (p′ .0) ≡ m .elements .kind x′
       kp′ = l .crosses .left-kind y′ x′ (h′ .1 .0, h′ .0)
+
       ky : m .elements .kind y ≡ m .elements .kind y′
       ky = cc
+
       split : ((m .elements .kind y < m .elements .kind x) ⊎ (m .elements .kind x ≤ m .elements .kind y)) → (insert m (p .0) zs ≡ insert m (p′ .0) zs′ → (p .0 ≡ p′ .0) × (zs ≡ zs′)) → (x ≡ x′) × (_≡_ {A = List E} (y ∷ zs) (y′ ∷ zs′))
       split (inl s) ih =
           let e1 = insert-passes m x y zs s in

@@ -47,9 +47,14 @@ module _ {E : Type 0} (m : Meaning E) where
   raise-turns k xs h =
       let f = find k xs h in
       let long = ap length (f .3) ∙ length-append (f .0) (f .1 ∷ f .2) in
-      let t = climb-turns (length (f .0)) (length (f .2)) xs (omega arith) in
-      (t .0, (climb (length (f .0)) (length (f .2)),
-        record { front = f .0; raised = f .1; later = f .2; parts = f .3; of-kind = f .4; none-later = f .5; climbs = refl }, t .1))
+      let t = climb-turns (length (f .0)) (length (f .2)) xs (omega arith) in (
+        t .0,
+        (
+          climb (length (f .0)) (length (f .2)),
+          record { front = f .0; raised = f .1; later = f .2; parts = f .3; of-kind = f .4; none-later = f .5; climbs = refl },
+          t .1,
+        ),
+      )
 
   pub lacks-none : (k : ℕ) (front : List E) (x : E) (later : List E) → Lacks m k (front ++ (x ∷ later)) → ¬ (m .elements .kind x ≡ k)
   lacks-none k [] x later h = h .0

@@ -86,7 +86,10 @@ module _ {E : Type 0} {m : Meaning E} (l : Lawful m) where
   reordering row xs ys (move ∷ moves) hr h t =
       let f = by m (move .0) in
       let e = made-exchanged (move .0) (move .1) row xs hr h in
-      let r = reordering row (exchanged f (move .1) xs) ys moves hr (exchanged-belong (move .0) (move .1) xs h) (t .1) in
-      (sym (ap (λ (p : List E × List E). p .0) e) ∙ r .0,
-       (subst (λ (n : ℕ). suc (move .1) < n) (sym (length-made m row xs)) (t .0),
-        subst (λ (zs : List E). Turns m moves zs (made m row ys .1)) (ap (λ (p : List E × List E). p .1) e) (r .1)))
+      let r = reordering row (exchanged f (move .1) xs) ys moves hr (exchanged-belong (move .0) (move .1) xs h) (t .1) in (
+        sym (ap (λ (p : List E × List E). p .0) e) ∙ r .0,
+        (
+          subst (λ (n : ℕ). suc (move .1) < n) (sym (length-made m row xs)) (t .0),
+          subst (λ (zs : List E). Turns m moves zs (made m row ys .1)) (ap (λ (p : List E × List E). p .1) e) (r .1),
+        ),
+      )

@@ -71,9 +71,11 @@ not-short n l h = (row (cases-lt (l .row) (n .boxes)), even (cases-eq (l .incomi
     row : ((l .row < n .boxes) ⊎ (n .boxes ≤ l .row)) → n .boxes ≤ l .row
     row (inl a) = absurd (h (inl a))
     row (inr a) = a
+
     even : ((l .incoming ≡ l .outgoing) ⊎ (l .incoming ≡ l .outgoing → ⊥)) → l .incoming ≡ l .outgoing
     even (inl a) = a
     even (inr a) = absurd (h (inr (inl a)))
+
     log : ((l .incoming < n .sweeps) ⊎ (n .sweeps ≤ l .incoming)) → n .sweeps ≤ l .incoming
     log (inl a) = absurd (h (inr (inr a)))
     log (inr a) = a

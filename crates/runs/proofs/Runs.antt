@@ -92,6 +92,7 @@ module _ {E : Type 0} {m : Meaning E} (filled : List E) (v : View E) (s : Sound 
     where
       B : View E
       B = book m filled (v .incoming)
+
       split : Dec (Ground m (counts h) (lengths h) (view h) call ShortMemory) → Refuses m (counts-of B) (lengths h) B call r
       split (yes g) =
           let same : counts h ≡ counts-of B = (λ i. record { boxes = hd .boxes-count i; sweeps = hd .sweeps-count i }) ∙ ap counts-of is-book in
@@ -99,7 +100,7 @@ module _ {E : Type 0} {m : Meaning E} (filled : List E) (v : View E) (s : Sound 
       split (no g) =
           let k = ready (λ q. g (short-from q)) in
           subst (λ (w : View E). Refuses m (counts-of w) (lengths h) w call r) is-book
-            (subst₂ (λ (n : Counts) (w : View E). Refuses m n (lengths h) w call r) (k .counts-are) (views (k .row-is) (k .incoming-is) (k .outgoing-is)) f)
+          (subst₂ (λ (n : Counts) (w : View E). Refuses m n (lengths h) w call r) (k .counts-are) (views (k .row-is) (k .incoming-is) (k .outgoing-is)) f)
 
   grants-ready : (call : Call E) → Grants m (counts h) (lengths h) (view h) call → Ready v h
   grants-ready call f = ready (λ q. f ShortMemory (short-from q))
@@ -123,15 +124,15 @@ module _ {E : Type 0} {m : Meaning E} (l : Lawful m) (filled : List E) (v : View
       let spare : h .sweeps < length (h .incoming) = granted-spare g in
       let spare′ : h .sweeps < length (h .outgoing) = omega (arith, k .even-memory) in
       subst₂ (Next m filled v (sweep c))
-        (sym (views
-          (left-refilled (h .boxes) (h′ .boxes) (out .0) (h .row) (h′ .row) (v .row) (lv .boxes-kept) (lv .row-left) long (omega (arith, hd .boxes-count))
-            ∙ ap (λ (r : List E). swept m c r .0) (k .row-is))
-          (left-long (suc (h .sweeps)) (h′ .sweeps) (set (h .incoming) (h .sweeps) c) (h′ .incoming) (v .incoming) (lv .sweeps-left) (lv .incoming-left) (simp length-set (k .incoming-fits))
-            ∙ (take-suc-set (h .incoming) (h .sweeps) c spare ∙ ap (λ (xs : List E). xs ++ (c ∷ [])) (k .incoming-is)))
-          (left-long (suc (h .sweeps)) (h′ .sweeps) (set (h .outgoing) (h .sweeps) (out .1)) (h′ .outgoing) (v .outgoing) (lv .sweeps-left) (lv .outgoing-left) (simp length-set (k .outgoing-fits))
-            ∙ (take-suc-set (h .outgoing) (h .sweeps) (out .1) spare′ ∙ ap₂ (λ (r xs : List E). xs ++ (swept m c r .1 ∷ [])) (k .row-is) (k .outgoing-is)))))
-        (sym (answer ∙ ap (λ (r : List E). code (m .elements .code (swept m c r .1))) (k .row-is)))
-        (sweep-step l filled v s c (granted-carrier f) (granted-belong f))
+      (sym (views
+      (left-refilled (h .boxes) (h′ .boxes) (out .0) (h .row) (h′ .row) (v .row) (lv .boxes-kept) (lv .row-left) long (omega (arith, hd .boxes-count))
+      ∙ ap (λ (r : List E). swept m c r .0) (k .row-is))
+      (left-long (suc (h .sweeps)) (h′ .sweeps) (set (h .incoming) (h .sweeps) c) (h′ .incoming) (v .incoming) (lv .sweeps-left) (lv .incoming-left) (simp length-set (k .incoming-fits))
+      ∙ (take-suc-set (h .incoming) (h .sweeps) c spare ∙ ap (λ (xs : List E). xs ++ (c ∷ [])) (k .incoming-is)))
+      (left-long (suc (h .sweeps)) (h′ .sweeps) (set (h .outgoing) (h .sweeps) (out .1)) (h′ .outgoing) (v .outgoing) (lv .sweeps-left) (lv .outgoing-left) (simp length-set (k .outgoing-fits))
+      ∙ (take-suc-set (h .outgoing) (h .sweeps) (out .1) spare′ ∙ ap₂ (λ (r xs : List E). xs ++ (swept m c r .1 ∷ [])) (k .row-is) (k .outgoing-is)))))
+      (sym (answer ∙ ap (λ (r : List E). code (m .elements .code (swept m c r .1))) (k .row-is)))
+      (sweep-step l filled v s c (granted-carrier f) (granted-belong f))
 
   take-back-next : (a : Answer) → Grants m (counts h) (lengths h) (view h) take-back → Done m take-back h h′ a → Next m filled v take-back (after v h′) a
   take-back-next a g (lv, answer) =
@@ -142,15 +143,15 @@ module _ {E : Type 0} {m : Meaning E} (l : Lawful m) (filled : List E) (v : View
       let long : length (former .1) ≡ h .boxes = length-taken m (newest m (view h .outgoing)) (view h .row) ∙ (ap length (k .row-is) ∙ sym (hd .boxes-count)) in
       let fewer : n ≤ h .sweeps = omega arith in
       subst₂ (Next m filled v take-back)
-        (sym (views
-          (left-refilled (h .boxes) (h′ .boxes) (former .1) (h .row) (h′ .row) (v .row) (lv .boxes-kept) (lv .row-left) long (omega (arith, hd .boxes-count))
-            ∙ ap₂ (λ (r xs : List E). taken m r (newest m xs) .1) (k .row-is) (k .outgoing-is))
-          (left-long n (h′ .sweeps) (h .incoming) (h′ .incoming) (v .incoming) (lv .sweeps-left) (lv .incoming-left) (k .incoming-fits)
-            ∙ (sym (take-take n (h .sweeps) (h .incoming) fewer) ∙ ap₂ (λ (j : ℕ) (xs : List E). take (j - 1) xs) (hd .sweeps-count) (k .incoming-is)))
-          (left-long n (h′ .sweeps) (h .outgoing) (h′ .outgoing) (v .outgoing) (lv .sweeps-left) (lv .outgoing-left) (k .outgoing-fits)
-            ∙ (sym (take-take n (h .sweeps) (h .outgoing) fewer) ∙ ap₂ (λ (j : ℕ) (xs : List E). take (j - 1) xs) (hd .sweeps-count) (k .outgoing-is)))))
-        (sym (answer ∙ ap₂ (λ (r xs : List E). code (m .elements .code (taken m r (newest m xs) .0))) (k .row-is) (k .outgoing-is)))
-        (take-back-step l filled v s (granted-entry f))
+      (sym (views
+      (left-refilled (h .boxes) (h′ .boxes) (former .1) (h .row) (h′ .row) (v .row) (lv .boxes-kept) (lv .row-left) long (omega (arith, hd .boxes-count))
+      ∙ ap₂ (λ (r xs : List E). taken m r (newest m xs) .1) (k .row-is) (k .outgoing-is))
+      (left-long n (h′ .sweeps) (h .incoming) (h′ .incoming) (v .incoming) (lv .sweeps-left) (lv .incoming-left) (k .incoming-fits)
+      ∙ (sym (take-take n (h .sweeps) (h .incoming) fewer) ∙ ap₂ (λ (j : ℕ) (xs : List E). take (j - 1) xs) (hd .sweeps-count) (k .incoming-is)))
+      (left-long n (h′ .sweeps) (h .outgoing) (h′ .outgoing) (v .outgoing) (lv .sweeps-left) (lv .outgoing-left) (k .outgoing-fits)
+      ∙ (sym (take-take n (h .sweeps) (h .outgoing) fewer) ∙ ap₂ (λ (j : ℕ) (xs : List E). take (j - 1) xs) (hd .sweeps-count) (k .outgoing-is)))))
+      (sym (answer ∙ ap₂ (λ (r xs : List E). code (m .elements .code (taken m r (newest m xs) .0))) (k .row-is) (k .outgoing-is)))
+      (take-back-step l filled v s (granted-entry f))
 
   -- both halves filled anew, the row left alone
   log-refilled : (k : Ready v h) (xs ys : List E) → Leaves h h′ (h .sweeps) (h .row) (refilled (h .sweeps) xs (h .incoming)) (refilled (h .sweeps) ys (h .outgoing)) →
@@ -167,11 +168,11 @@ module _ {E : Type 0} {m : Meaning E} (l : Lawful m) (filled : List E) (v : View
       let ex = exchanged (by m w) i in
       let told : List E → Answer = λ xs. codes (m .elements .code (at m xs i)) (m .elements .code (at m xs (suc i))) in
       subst₂ (Next m filled v (exchange w i))
-        (sym (log-refilled k (ex (view h .incoming)) (ex (view h .outgoing)) lv
-            (length-exchanged (by m w) i (view h .incoming) ∙ ap length (k .incoming-is)) (length-exchanged (by m w) i (view h .outgoing) ∙ ap length (k .outgoing-is))
-          ∙ views refl (ap ex (k .incoming-is)) (ap ex (k .outgoing-is))))
-        (sym (answer ∙ ap (λ (xs : List E). told (ex xs)) (k .incoming-is)))
-        (((granted-place f, refl), refl), exchange-step l filled v s w i (granted-place f))
+      (sym (log-refilled k (ex (view h .incoming)) (ex (view h .outgoing)) lv
+      (length-exchanged (by m w) i (view h .incoming) ∙ ap length (k .incoming-is)) (length-exchanged (by m w) i (view h .outgoing) ∙ ap length (k .outgoing-is))
+      ∙ views refl (ap ex (k .incoming-is)) (ap ex (k .outgoing-is))))
+      (sym (answer ∙ ap (λ (xs : List E). told (ex xs)) (k .incoming-is)))
+      (((granted-place f, refl), refl), exchange-step l filled v s w i (granted-place f))
 
   raise-next : (j : ℕ) (a : Answer) → Grants m (counts h) (lengths h) (view h) (raise j) → Done m (raise j) h h′ a → Next m filled v (raise j) (after v h′) a
   raise-next j a g (lift, answer) =
@@ -183,9 +184,9 @@ module _ {E : Type 0} {m : Meaning E} (l : Lawful m) (filled : List E) (v : View
       let t = subst (λ (zs : List E). Turns m moves zs xs) (k .incoming-is) (lift .incoming-turned) in
       let u = subst (λ (zs : List E). Turns m moves zs ys) (k .outgoing-is) (lift .outgoing-turned) in
       subst₂ (Next m filled v (raise j))
-        (sym (log-refilled k xs ys (lift .leaves) (length-turned m moves (v .incoming) xs t) (length-turned m moves (v .outgoing) ys u)))
-        (sym answer)
-        (((moves, raises, t), refl), raise-step l filled v s j moves xs ys raises t u)
+      (sym (log-refilled k xs ys (lift .leaves) (length-turned m moves (v .incoming) xs t) (length-turned m moves (v .outgoing) ys u)))
+      (sym answer)
+      (((moves, raises, t), refl), raise-step l filled v s j moves xs ys raises t u)
 
   next : (call : Call E) (a : Answer) → Grants m (counts h) (lengths h) (view h) call → Done m call h h′ a → Next m filled v call (after v h′) a
   next (sweep c) = sweep-next c
@@ -214,19 +215,21 @@ module _ {E : Type 0} {m : Meaning E} (l : Lawful m) (filled : List E) where
   promise = record {
     by-the-book = λ calls v r. let s = run-sound r in (s .0, s .1 .is-made);
     reordering = λ c d v w r q moves t.
-      let s = run-sound r .1 in
-      let u = run-sound q .1 in
-      let e = turned-made l filled (v .incoming) (w .incoming) moves (s .filled-belongs) (s .carriers-belong) t in
-      (row s ∙ (e .0 ∙ sym (row u)), subst₂ (Turns m moves) (sym (out s)) (sym (out u)) (e .1));
+        let s = run-sound r .1 in
+        let u = run-sound q .1 in
+        let e = turned-made l filled (v .incoming) (w .incoming) moves (s .filled-belongs) (s .carriers-belong) t in
+        (row s ∙ (e .0 ∙ sym (row u)), subst₂ (Turns m moves) (sym (out s)) (sym (out u)) (e .1));
     kinds-tell = λ returning c d v w r q.
-      let s = run-sound r .1 in
-      let u = run-sound q .1 in
-      (λ e. (([], e .0), ap (map (m .elements .kind)) (e .0)),
-       λ t. let e = kinds-tell l returning (v .incoming) (w .incoming) (t .0 .0) (s .carriers-belong) (t .0 .1) (t .1) in
-            (e, out s ∙ (ap (λ (xs : List E). made m filled xs .1) e ∙ sym (out u))));
+        let s = run-sound r .1 in
+        let u = run-sound q .1 in (
+          λ e. (([], e .0), ap (map (m .elements .kind)) (e .0)),
+          λ t. let e = kinds-tell l returning (v .incoming) (w .incoming) (t .0 .0) (s .carriers-belong) (t .0 .1) (t .1) in
+              (e, out s ∙ (ap (λ (xs : List E). made m filled xs .1) e ∙ sym (out u))),
+        );
   }
     where
       row : {v : View E} → Sound m filled v → v .row ≡ made m filled (v .incoming) .0
       row s = ap (λ (p : List E × List E). p .0) (s .is-made)
+
       out : {v : View E} → Sound m filled v → v .outgoing ≡ made m filled (v .incoming) .1
       out s = ap (λ (p : List E × List E). p .1) (s .is-made)

@@ -53,9 +53,10 @@ module _ {E : Type 0} {m : Meaning E} (l : Lawful m) where
     sweep-step c hc hr =
         let out = swept m c (v .row) in
         let pushed : _≡_ {A = List E × List E} (out .0, v .outgoing ++ (out .1 ∷ [])) (made m filled (v .incoming ++ (c ∷ []))) =
-              ap (λ (r : List E × List E). (swept m c (r .0) .0, r .1 ++ (swept m c (r .0) .1 ∷ []))) (s .is-made) ∙ sym (made-append m filled (v .incoming) (c ∷ [])) in
-        ((refl, ap (λ (x : E). code (m .elements .code x)) (sym (newest-push m (v .outgoing) (out .1)) ∙ ap (λ (r : List E × List E). newest m (r .1)) pushed)),
-         record { is-made = pushed; carriers-belong = belong-append m (v .incoming) (c ∷ []) (s .carriers-belong) (hc, tt); filled-belongs = inr (from (s .filled-belongs)) })
+        ap (λ (r : List E × List E). (swept m c (r .0) .0, r .1 ++ (swept m c (r .0) .1 ∷ []))) (s .is-made) ∙ sym (made-append m filled (v .incoming) (c ∷ [])) in (
+          (refl, ap (λ (x : E). code (m .elements .code x)) (sym (newest-push m (v .outgoing) (out .1)) ∙ ap (λ (r : List E × List E). newest m (r .1)) pushed)),
+          record { is-made = pushed; carriers-belong = belong-append m (v .incoming) (c ∷ []) (s .carriers-belong) (hc, tt); filled-belongs = inr (from (s .filled-belongs)) },
+        )
       where
         from : ((v .incoming ≡ []) ⊎ Belong m filled) → Belong m filled
         from (inl e) = subst (Belong m) (ap (λ (r : List E × List E). r .0) (s .is-made) ∙ ap (λ (xs : List E). made m filled xs .0) e) hr
@@ -77,12 +78,13 @@ module _ {E : Type 0} {m : Meaning E} (l : Lawful m) where
         let hx = append-belong m front (c ∷ []) (subst (Belong m) e0 (s .carriers-belong)) in
         let hf = filled-holds h in
         let e2 : taken m (v .row) (newest m (v .outgoing)) ≡ (c, r .0) =
-              ap (λ (p : List E × List E). taken m (p .0) (newest m (p .1))) e1
-              ∙ (ap (taken m (w .0)) (newest-push m (r .1) (w .1)) ∙ sweep-undone l c (r .0) (hx .1 .0, made-belong filled front hf (hx .0))) in
+        ap (λ (p : List E × List E). taken m (p .0) (newest m (p .1))) e1
+        ∙ (ap (taken m (w .0)) (newest-push m (r .1) (w .1)) ∙ sweep-undone l c (r .0) (hx .1 .0, made-belong filled front hf (hx .0))) in
         let long : length (r .1) ≡ n = length-made m filled front ∙ length-take-le n (v .incoming) (omega arith) in
-        let e3 : take n (v .outgoing) ≡ r .1 = ap (λ (p : List E × List E). take n (p .1)) e1 ∙ take-at (r .1) (w .1 ∷ []) n long in
-        ((refl, ap (λ (p : E × List E). code (m .elements .code (p .0))) e2),
-         record { is-made = ap₂ (λ (p : E × List E) (q : List E). (p .1, q)) e2 e3; carriers-belong = hx .0; filled-belongs = inr hf })
+        let e3 : take n (v .outgoing) ≡ r .1 = ap (λ (p : List E × List E). take n (p .1)) e1 ∙ take-at (r .1) (w .1 ∷ []) n long in (
+          (refl, ap (λ (p : E × List E). code (m .elements .code (p .0))) e2),
+          record { is-made = ap₂ (λ (p : E × List E) (q : List E). (p .1, q)) e2 e3; carriers-belong = hx .0; filled-belongs = inr hf },
+        )
 
     pub exchange-step : (w : Way) (i : ℕ) → suc i < length (v .incoming) →
         Sound m filled (record { row = v .row; incoming = exchanged (by m w) i (v .incoming); outgoing = exchanged (by m w) i (v .outgoing) })
