@@ -5,5 +5,6 @@ pub mod Insertion
 pub mod Rules
 pub mod Outcomes
 pub mod Granting
+pub mod Deeds
 pub mod Steps
 pub mod Runs

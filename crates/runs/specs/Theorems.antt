@@ -10,6 +10,7 @@ use Rattle.exchange.specs.Laws.{Returning}
 use Rattle.runs.specs.Sweeps.{Belong, at, made, newest, swept, taken}
 use Rattle.runs.specs.Exchanges.{Move, Raises, Turns, Way, by, exchanged}
 use Rattle.runs.specs.Book.{Answer, Call, Counts, Grants, Lengths, Outcome, View, exchange, raise, sweep, take-back}
+use Rattle.runs.specs.Calls.{Does, Held}
 
 -- a carrier and a row of elements
 abbrev pub Belongs : {E : Type 0} → Meaning E → E → List E → Type 0
@@ -55,6 +56,11 @@ Kinds-tell {E = E} m = Returning m → (xs ys : List E) (moves : List Move) → 
 pub record One-outcome {E : Type 0} (m : Meaning E) : Type 0 where
   pub some : (filled : List E) (l : Lengths) (call : Call E) (xs : List E) → (ys : List E) × (a : Answer) × Outcome m filled l call xs ys a
   pub one : (filled : List E) (l : Lengths) (call : Call E) (xs ys zs : List E) (a b : Answer) → Outcome m filled l call xs ys a → Outcome m filled l call xs zs b → (ys ≡ zs) × (a ≡ b)
+
+-- a call does one thing to whatever memory it is handed
+pub record One-deed {E : Type 0} (m : Meaning E) : Type 0 where
+  pub some : (call : Call E) (h : Held E) → (h′ : Held E) × (a : Answer) × Does m call h h′ a
+  pub one : (call : Call E) (h h′ h″ : Held E) (a b : Answer) → Does m call h h′ a → Does m call h h″ b → (h′ ≡ h″) × (a ≡ b)
 
 -- memory that reaches: a row of no fewer places than boxes, and two halves of one length, of no fewer places than sweeps
 abbrev pub Reaches : Counts → Lengths → Type 0

@@ -1,6 +1,6 @@
 // The theorems, each the contract of a function that does nothing else.
 ghost use Rattle.runs.specs.Runs.{Promises};
-ghost use Rattle.runs.specs.Theorems.{At-a-place, Granting, In-turn, Kinds-tell, One-outcome, Raising, Reordering, Undo};
+ghost use Rattle.runs.specs.Theorems.{At-a-place, Granting, In-turn, Kinds-tell, One-deed, One-outcome, Raising, Reordering, Undo};
 use exchange::map::ExchangeMap;
 
 // A carrier meets the boxes in turn, and the carriers follow one another.
@@ -41,6 +41,11 @@ pub fn calls_are_granted_when_all_is_found<M: ExchangeMap>(map: &M)
 // The plain book answers every call, in one way.
 pub fn the_book_has_one_outcome<M: ExchangeMap>(map: &M)
     ensures { λ _. ⌜ One-outcome (M·ExchangeMap .meaning (now (map .entry))) ⌝ }
+{}
+
+// A call does one thing to whatever memory it is handed, and answers in one way.
+pub fn a_call_does_one_thing<M: ExchangeMap>(map: &M)
+    ensures { λ _. ⌜ One-deed (M·ExchangeMap .meaning (now (map .entry))) ⌝ }
 {}
 
 // What every run of a bench keeps, from whatever row it was filled with.
