@@ -13,12 +13,13 @@ use Rattle.exchange.proofs.Layers.{uncross-is-cross}
 use Rattle.runs.specs.Sweeps.{Belong}
 use Rattle.runs.specs.Exchanges.{Move, Turns, Way, back, by, exchanged, forth}
 use Rattle.runs.specs.Theorems.{Kinds-tell}
+use Rattle.runs.proofs.Places.{kind}
 use Rattle.runs.proofs.Reordering.{exchanged-belong, turned-belong}
 
 -- x, older than all of the list, moves past every carrier of smaller kind up to the first that is none
 insert : {E : Type 0} → Meaning E → E → List E → List E
 insert m x [] = x ∷ []
-insert m x (y ∷ zs) = cond (leb (m .elements .kind x) (m .elements .kind y)) (x ∷ y ∷ zs) (m .cross y x .1 ∷ insert m (m .cross y x .0) zs)
+insert m x (y ∷ zs) = cond (leb (kind m x) (kind m y)) (x ∷ y ∷ zs) (m .cross y x .1 ∷ insert m (m .cross y x .0) zs)
 
 sorted : {E : Type 0} → Meaning E → List E → List E
 sorted m [] = []
@@ -38,28 +39,28 @@ module _ {E : Type 0} (m : Meaning E) where
   unfolding insert
   insert-alone x = refl
 
-  insert-stays : (x y : E) (zs : List E) → m .elements .kind x ≤ m .elements .kind y → insert m x (y ∷ zs) ≡ x ∷ y ∷ zs
+  insert-stays : (x y : E) (zs : List E) → kind m x ≤ kind m y → insert m x (y ∷ zs) ≡ x ∷ y ∷ zs
   unfolding insert
   insert-stays x y zs h = ap (λ (b : Bool). cond b (x ∷ y ∷ zs) (m .cross y x .1 ∷ insert m (m .cross y x .0) zs)) (le-leb _ _ h)
 
-  insert-passes : (x y : E) (zs : List E) → m .elements .kind y < m .elements .kind x → insert m x (y ∷ zs) ≡ m .cross y x .1 ∷ insert m (m .cross y x .0) zs
+  insert-passes : (x y : E) (zs : List E) → kind m y < kind m x → insert m x (y ∷ zs) ≡ m .cross y x .1 ∷ insert m (m .cross y x .0) zs
   unfolding insert
   insert-passes x y zs h = ap (λ (b : Bool). cond b (x ∷ y ∷ zs) (m .cross y x .1 ∷ insert m (m .cross y x .0) zs)) (lt-leb _ _ h)
 
 module _ {E : Type 0} {m : Meaning E} (l : Lawful m) where
   insert-belong : (x : E) (zs : List E) → T (m .elements .belongs x) → Belong m zs → Belong m (insert m x zs)
   insert-belong x [] hx h = subst (Belong m) (sym (insert-alone m x)) (hx, tt)
-  insert-belong x (y ∷ zs) hx h = split (cases-lt (m .elements .kind y) (m .elements .kind x)) (insert-belong (m .cross y x .0) zs (p .0) (h .1))
+  insert-belong x (y ∷ zs) hx h = split (cases-lt (kind m y) (kind m x)) (insert-belong (m .cross y x .0) zs (p .0) (h .1))
     where
       p : T (m .elements .belongs (m .cross y x .0)) × T (m .elements .belongs (m .cross y x .1))
       p = l .crosses .belong y x (h .0, hx)
 
-      split : ((m .elements .kind y < m .elements .kind x) ⊎ (m .elements .kind x ≤ m .elements .kind y)) → Belong m (insert m (m .cross y x .0) zs) → Belong m (insert m x (y ∷ zs))
+      split : ((kind m y < kind m x) ⊎ (kind m x ≤ kind m y)) → Belong m (insert m (m .cross y x .0) zs) → Belong m (insert m x (y ∷ zs))
       split (inl s) r = subst (Belong m) (sym (insert-passes m x y zs s)) (p .1, r)
       split (inr s) r = subst (Belong m) (sym (insert-stays m x y zs s)) (hx, h)
 
   -- two carriers out of order may be exchanged before they are inserted
-  insert-exchanged : (x y : E) (zs : List E) → T (m .elements .belongs x) → T (m .elements .belongs y) → Belong m zs → m .elements .kind y < m .elements .kind x →
+  insert-exchanged : (x y : E) (zs : List E) → T (m .elements .belongs x) → T (m .elements .belongs y) → Belong m zs → kind m y < kind m x →
       insert m (m .cross y x .1) (insert m (m .cross y x .0) zs) ≡ insert m x (insert m y zs)
   insert-exchanged x y [] hx hy h s =
       let a = m .cross y x .1 in
@@ -71,10 +72,10 @@ module _ {E : Type 0} {m : Meaning E} (l : Lawful m) where
       let e3 = insert-stays m a b [] (omega arith) in
       let e4 = insert-passes m x y [] s in
       cc
-  insert-exchanged x y (z ∷ zs) hx hy h s = split (cases-lt kz (m .elements .kind y)) (cases-lt kz (m .elements .kind x)) (insert-exchanged (s′ .0) (r .0) zs (hs .0) (hr .0) (h .1) (omega (arith, ks, kr)))
+  insert-exchanged x y (z ∷ zs) hx hy h s = split (cases-lt kz (kind m y)) (cases-lt kz (kind m x)) (insert-exchanged (s′ .0) (r .0) zs (hs .0) (hr .0) (h .1) (omega (arith, ks, kr)))
     where
       kz : ℕ
-      kz = m .elements .kind z
+      kz = kind m z
 
       p : E × E
       p = m .cross y x
@@ -97,25 +98,25 @@ module _ {E : Type 0} {m : Meaning E} (l : Lawful m) where
       hs : T (m .elements .belongs (s′ .0)) × T (m .elements .belongs (s′ .1))
       hs = l .crosses .belong (r .1) x (hr .1, hx)
 
-      ka : m .elements .kind (p .1) ≡ m .elements .kind y
+      ka : kind m (p .1) ≡ kind m y
       ka = l .crosses .right-kind y x (hy, hx)
 
-      kb : m .elements .kind (p .0) ≡ m .elements .kind x
+      kb : kind m (p .0) ≡ kind m x
       kb = l .crosses .left-kind y x (hy, hx)
 
-      kq : m .elements .kind (q .1) ≡ kz
+      kq : kind m (q .1) ≡ kz
       kq = l .crosses .right-kind z (p .0) (h .0, hp .0)
 
-      kr : m .elements .kind (r .0) ≡ m .elements .kind y
+      kr : kind m (r .0) ≡ kind m y
       kr = l .crosses .left-kind z y (h .0, hy)
 
-      kr′ : m .elements .kind (r .1) ≡ kz
+      kr′ : kind m (r .1) ≡ kz
       kr′ = l .crosses .right-kind z y (h .0, hy)
 
-      ks : m .elements .kind (s′ .0) ≡ m .elements .kind x
+      ks : kind m (s′ .0) ≡ kind m x
       ks = l .crosses .left-kind (r .1) x (hr .1, hx)
 
-      split : ((kz < m .elements .kind y) ⊎ (m .elements .kind y ≤ kz)) → ((kz < m .elements .kind x) ⊎ (m .elements .kind x ≤ kz)) →
+      split : ((kz < kind m y) ⊎ (kind m y ≤ kz)) → ((kz < kind m x) ⊎ (kind m x ≤ kz)) →
           insert m (m .cross (r .0) (s′ .0) .1) (insert m (m .cross (r .0) (s′ .0) .0) zs) ≡ insert m (s′ .0) (insert m (r .0) zs) →
           insert m (p .1) (insert m (p .0) (z ∷ zs)) ≡ insert m x (insert m y (z ∷ zs))
       split (inl a) (inl b) ih =
@@ -144,31 +145,31 @@ module _ {E : Type 0} {m : Meaning E} (l : Lawful m) where
   sorted-belong [] h = h
   sorted-belong (x ∷ xs) h = insert-belong x (sorted m xs) (h .0) (sorted-belong xs (h .1))
 
-  kinds-insert : (x : E) (zs : List E) → T (m .elements .belongs x) → Belong m zs → map (m .elements .kind) (insert m x zs) ≡ place (m .elements .kind x) (map (m .elements .kind) zs)
+  kinds-insert : (x : E) (zs : List E) → T (m .elements .belongs x) → Belong m zs → map (kind m) (insert m x zs) ≡ place (kind m x) (map (kind m) zs)
   unfolding insert
   kinds-insert x [] hx h = refl
-  kinds-insert x (y ∷ zs) hx h = split (leb (m .elements .kind x) (m .elements .kind y)) (kinds-insert (m .cross y x .0) zs (l .crosses .belong y x (h .0, hx) .0) (h .1))
+  kinds-insert x (y ∷ zs) hx h = split (leb (kind m x) (kind m y)) (kinds-insert (m .cross y x .0) zs (l .crosses .belong y x (h .0, hx) .0) (h .1))
     where
-      split : (b : Bool) → map (m .elements .kind) (insert m (m .cross y x .0) zs) ≡ place (m .elements .kind (m .cross y x .0)) (map (m .elements .kind) zs) →
-          map (m .elements .kind) (cond b (x ∷ y ∷ zs) (m .cross y x .1 ∷ insert m (m .cross y x .0) zs))
-          ≡ cond b (m .elements .kind x ∷ m .elements .kind y ∷ map (m .elements .kind) zs) (m .elements .kind y ∷ place (m .elements .kind x) (map (m .elements .kind) zs))
+      split : (b : Bool) → map (kind m) (insert m (m .cross y x .0) zs) ≡ place (kind m (m .cross y x .0)) (map (kind m) zs) →
+          map (kind m) (cond b (x ∷ y ∷ zs) (m .cross y x .1 ∷ insert m (m .cross y x .0) zs))
+          ≡ cond b (kind m x ∷ kind m y ∷ map (kind m) zs) (kind m y ∷ place (kind m x) (map (kind m) zs))
       split true ih = refl
       split false ih =
           let e0 = l .crosses .left-kind y x (h .0, hx) in
           let e1 = l .crosses .right-kind y x (h .0, hx) in
           cc
 
-  kinds-sorted : (xs : List E) → Belong m xs → map (m .elements .kind) (sorted m xs) ≡ placed (map (m .elements .kind) xs)
+  kinds-sorted : (xs : List E) → Belong m xs → map (kind m) (sorted m xs) ≡ placed (map (kind m) xs)
   unfolding sorted
   kinds-sorted [] h = refl
-  kinds-sorted (x ∷ xs) h = kinds-insert x (sorted m xs) (h .0) (sorted-belong xs (h .1)) ∙ ap (place (m .elements .kind x)) (kinds-sorted xs (h .1))
+  kinds-sorted (x ∷ xs) h = kinds-insert x (sorted m xs) (h .0) (sorted-belong xs (h .1)) ∙ ap (place (kind m x)) (kinds-sorted xs (h .1))
 
 module _ {E : Type 0} {m : Meaning E} (l : Lawful m) (r : Returning m) where
   sorted-exchanged : (i : ℕ) (xs : List E) → Belong m xs → sorted m (exchanged (m .cross) i xs) ≡ sorted m xs
   unfolding sorted
   sorted-exchanged i [] h = refl
   sorted-exchanged zero (x ∷ []) h = refl
-  sorted-exchanged zero (x ∷ y ∷ zs) h = split (cases-order (m .elements .kind y) (m .elements .kind x))
+  sorted-exchanged zero (x ∷ y ∷ zs) h = split (cases-order (kind m y) (kind m x))
     where
       p : E × E
       p = m .cross y x
@@ -182,7 +183,7 @@ module _ {E : Type 0} {m : Meaning E} (l : Lawful m) (r : Returning m) where
       insert2 : E × E → List E
       insert2 t = insert m (t .1) (insert m (t .0) (sorted m zs))
 
-      split : ((m .elements .kind y ≡ m .elements .kind x) ⊎ ((m .elements .kind y < m .elements .kind x) ⊎ (m .elements .kind x < m .elements .kind y))) → insert2 p ≡ insert2 (y, x)
+      split : ((kind m y ≡ kind m x) ⊎ ((kind m y < kind m x) ⊎ (kind m x < kind m y))) → insert2 p ≡ insert2 (y, x)
       split (inl e) = ap insert2 (r .alike y x e)
       split (inr (inl s)) = insert-exchanged l x y (sorted m zs) (h .0) (h .1 .0) hz s
       split (inr (inr s)) =
@@ -204,7 +205,7 @@ module _ {E : Type 0} {m : Meaning E} (l : Lawful m) (r : Returning m) where
       ∙ sorted-turned next ys moves (exchanged-belong l (move .0) (move .1) xs h) (t .1))
 
   -- an insertion is undone when the kinds are known
-  insert-told : (x x′ : E) (zs zs′ : List E) → Belong m (x ∷ zs) → Belong m (x′ ∷ zs′) → m .elements .kind x ≡ m .elements .kind x′ → map (m .elements .kind) zs ≡ map (m .elements .kind) zs′ →
+  insert-told : (x x′ : E) (zs zs′ : List E) → Belong m (x ∷ zs) → Belong m (x′ ∷ zs′) → kind m x ≡ kind m x′ → map (kind m) zs ≡ map (kind m) zs′ →
       insert m x zs ≡ insert m x′ zs′ → (x ≡ x′) × (zs ≡ zs′)
   insert-told x x′ [] [] h h′ k ks e =
       let e1 = insert-alone m x in
@@ -213,7 +214,7 @@ module _ {E : Type 0} {m : Meaning E} (l : Lawful m) (r : Returning m) where
   insert-told x x′ [] (y′ ∷ zs′) h h′ k ks e = let z : _≡_ {A = ℕ} 0 1 = cc in absurd (omega arith)
   insert-told x x′ (y ∷ zs) [] h h′ k ks e = let z : _≡_ {A = ℕ} 0 1 = cc in absurd (omega arith)
   insert-told x x′ (y ∷ zs) (y′ ∷ zs′) h h′ k ks e =
-      split (cases-lt (m .elements .kind y) (m .elements .kind x)) (insert-told (p .0) (p′ .0) zs zs′ (hp .0, h .1 .1) (hp′ .0, h′ .1 .1) (kp ∙ (k ∙ sym kp′)) (cc))
+      split (cases-lt (kind m y) (kind m x)) (insert-told (p .0) (p′ .0) zs zs′ (hp .0, h .1 .1) (hp′ .0, h′ .1 .1) (kp ∙ (k ∙ sym kp′)) (cc))
     where
       p : E × E
       p = m .cross y x
@@ -227,16 +228,16 @@ module _ {E : Type 0} {m : Meaning E} (l : Lawful m) (r : Returning m) where
       hp′ : T (m .elements .belongs (p′ .0)) × T (m .elements .belongs (p′ .1))
       hp′ = l .crosses .belong y′ x′ (h′ .1 .0, h′ .0)
 
-      kp : m .elements .kind (p .0) ≡ m .elements .kind x
+      kp : kind m (p .0) ≡ kind m x
       kp = l .crosses .left-kind y x (h .1 .0, h .0)
 
-      kp′ : m .elements .kind (p′ .0) ≡ m .elements .kind x′
+      kp′ : kind m (p′ .0) ≡ kind m x′
       kp′ = l .crosses .left-kind y′ x′ (h′ .1 .0, h′ .0)
 
-      ky : m .elements .kind y ≡ m .elements .kind y′
+      ky : kind m y ≡ kind m y′
       ky = cc
 
-      split : ((m .elements .kind y < m .elements .kind x) ⊎ (m .elements .kind x ≤ m .elements .kind y)) → (insert m (p .0) zs ≡ insert m (p′ .0) zs′ → (p .0 ≡ p′ .0) × (zs ≡ zs′)) → (x ≡ x′) × (_≡_ {A = List E} (y ∷ zs) (y′ ∷ zs′))
+      split : ((kind m y < kind m x) ⊎ (kind m x ≤ kind m y)) → (insert m (p .0) zs ≡ insert m (p′ .0) zs′ → (p .0 ≡ p′ .0) × (zs ≡ zs′)) → (x ≡ x′) × (_≡_ {A = List E} (y ∷ zs) (y′ ∷ zs′))
       split (inl s) ih =
           let e1 = insert-passes m x y zs s in
           let e2 = insert-passes m x′ y′ zs′ (omega (arith, ky)) in
@@ -249,13 +250,13 @@ module _ {E : Type 0} {m : Meaning E} (l : Lawful m) (r : Returning m) where
           let e2 = insert-stays m x′ y′ zs′ (omega (arith, ky)) in
           (cc, cc)
 
-  sorted-told : (xs ys : List E) → Belong m xs → Belong m ys → map (m .elements .kind) xs ≡ map (m .elements .kind) ys → sorted m xs ≡ sorted m ys → xs ≡ ys
+  sorted-told : (xs ys : List E) → Belong m xs → Belong m ys → map (kind m) xs ≡ map (kind m) ys → sorted m xs ≡ sorted m ys → xs ≡ ys
   unfolding sorted
   sorted-told [] [] h h′ k e = refl
   sorted-told [] (y ∷ ys) h h′ k e = let z : _≡_ {A = ℕ} 0 1 = cc in absurd (omega arith)
   sorted-told (x ∷ xs) [] h h′ k e = let z : _≡_ {A = ℕ} 0 1 = cc in absurd (omega arith)
   sorted-told (x ∷ xs) (y ∷ ys) h h′ k e =
-      let ks : map (m .elements .kind) xs ≡ map (m .elements .kind) ys = cc in
+      let ks : map (kind m) xs ≡ map (kind m) ys = cc in
       let same = kinds-sorted l xs (h .1) ∙ (ap placed ks ∙ sym (kinds-sorted l ys (h′ .1))) in
       let first = insert-told x y (sorted m xs) (sorted m ys) (h .0, sorted-belong l xs (h .1)) (h′ .0, sorted-belong l ys (h′ .1)) (cc) same e in
       ap₂ (λ (a : E) (as′ : List E). a ∷ as′) (first .0) (sorted-told xs ys (h .1) (h′ .1) ks (first .1))

@@ -74,9 +74,12 @@ climb-past m i (suc n) y xs ys t =
     let r = climb-past m (suc i) n y (exchanged (m .cross) i xs) ys (t .1) in
     (r .0, r .1, (omega arith, r .2))
 
+abbrev pub kind : {E : Type 0} → Meaning E → E → ℕ
+kind m = m .elements .kind
+
 module _ {E : Type 0} {m : Meaning E} (l : Lawful m) where
-  climb-kinds-here : (x : E) (later ys : List E) → Belong m (x ∷ later) → Turns m (climb 0 (length later)) (x ∷ later) ys → map (m .elements .kind) ys ≡ map (m .elements .kind) later ++ (m .elements .kind x ∷ [])
-  climb-kinds-here x [] ys h t = ap (map (m .elements .kind)) (sym t)
+  climb-kinds-here : (x : E) (later ys : List E) → Belong m (x ∷ later) → Turns m (climb 0 (length later)) (x ∷ later) ys → map (kind m) ys ≡ map (kind m) later ++ (kind m x ∷ [])
+  climb-kinds-here x [] ys h t = ap (map (kind m)) (sym t)
   climb-kinds-here x (y ∷ zs) ys h t =
       let p = m .cross y x in
       let hp = l .crosses .belong y x (h .1 .0, h .0) in
@@ -84,27 +87,26 @@ module _ {E : Type 0} {m : Meaning E} (l : Lawful m) where
       let rest = climb-kinds-here (p .0) zs (r .0) (hp .0, h .1 .1) (r .2) in
       let ky = l .crosses .right-kind y x (h .1 .0, h .0) in
       let kx = l .crosses .left-kind y x (h .1 .0, h .0) in
-      ap (map (m .elements .kind)) (sym (r .1)) ∙ ap₂ (λ (k : ℕ) (ks : List ℕ). k ∷ ks) ky (rest ∙ ap (λ (k : ℕ). map (m .elements .kind) zs ++ (k ∷ [])) kx)
+      ap (map (kind m)) (sym (r .1)) ∙ ap₂ (λ (k : ℕ) (ks : List ℕ). k ∷ ks) ky (rest ∙ ap (λ (k : ℕ). map (kind m) zs ++ (k ∷ [])) kx)
 
   climb-kinds : (front : List E) (x : E) (later ys : List E) → Belong m (front ++ (x ∷ later)) → Turns m (climb (length front) (length later)) (front ++ (x ∷ later)) ys →
-      map (m .elements .kind) ys ≡ map (m .elements .kind) front ++ (map (m .elements .kind) later ++ (m .elements .kind x ∷ []))
+      map (kind m) ys ≡ map (kind m) front ++ (map (kind m) later ++ (kind m x ∷ []))
   climb-kinds [] x later ys h t = climb-kinds-here x later ys h t
   climb-kinds (y ∷ front) x later ys h t =
       let r = climb-past m (length front) (length later) y (front ++ (x ∷ later)) ys t in
-      ap (map (m .elements .kind)) (sym (r .1)) ∙ ap (λ (ks : List ℕ). m .elements .kind y ∷ ks) (climb-kinds front x later (r .0) (h .1) (r .2))
+      ap (map (kind m)) (sym (r .1)) ∙ ap (λ (ks : List ℕ). kind m y ∷ ks) (climb-kinds front x later (r .0) (h .1) (r .2))
 
   kinds-after : (k : ℕ) (xs ys : List E) (moves : List Move) → Belong m xs → (r : Raises m k xs moves) → Turns m moves xs ys →
-      map (m .elements .kind) ys ≡ map (m .elements .kind) (r .front) ++ (map (m .elements .kind) (r .later) ++ (k ∷ []))
+      map (kind m) ys ≡ map (kind m) (r .front) ++ (map (kind m) (r .later) ++ (k ∷ []))
   kinds-after k xs ys moves h r t =
       climb-kinds (r .front) (r .raised) (r .later) ys (subst (Belong m) (r .parts) h) (subst₂ (λ (p : List Move) (zs : List E). Turns m p zs ys) (r .climbs) (r .parts) t)
-      ∙ ap (λ (j : ℕ). map (m .elements .kind) (r .front) ++ (map (m .elements .kind) (r .later) ++ (j ∷ []))) (r .of-kind)
+      ∙ ap (λ (j : ℕ). map (kind m) (r .front) ++ (map (kind m) (r .later) ++ (j ∷ []))) (r .of-kind)
 
   raised-already : (k : ℕ) (xs ys : List E) (moves : List Move) → Belong m xs → Raises m k xs moves → Turns m moves xs ys → Raises m k ys []
   raised-already k xs ys moves h r t =
-      let kind = m .elements .kind in
-      let before = map kind (r .front) ++ map kind (r .later) in
-      let e = kinds-after k xs ys moves h r t ∙ sym (append-assoc (map kind (r .front)) (map kind (r .later)) (k ∷ [])) in
-      let long = sym (length-map ys kind) ∙ (ap length e ∙ length-push before k) in
+      let before = map (kind m) (r .front) ++ map (kind m) (r .later) in
+      let e = kinds-after k xs ys moves h r t ∙ sym (append-assoc (map (kind m) (r .front)) (map (kind m) (r .later)) (k ∷ [])) in
+      let long = sym (length-map ys (kind m)) ∙ (ap length e ∙ length-push before k) in
       let last = unpush m ys (omega arith) in
       let front = take (length ys - 1) ys in
       record {
@@ -112,7 +114,7 @@ module _ {E : Type 0} {m : Meaning E} (l : Lawful m) where
         raised = newest m ys;
         later = [];
         parts = last;
-        of-kind = same-from-push (map kind front) before (kind (newest m ys)) k (sym (map-push kind front (newest m ys)) ∙ (ap (map kind) (sym last) ∙ e)) .1;
+        of-kind = same-from-push (map (kind m) front) before (kind m (newest m ys)) k (sym (map-push (kind m) front (newest m ys)) ∙ (ap (map (kind m)) (sym last) ∙ e)) .1;
         none-later = tt;
         climbs = refl;
       }

@@ -62,7 +62,7 @@ pub data Ground {E : Type 0} (m : Meaning E) (n : Counts) (l : Lengths) (v : Vie
   no-element : {carrier : E} → m .elements .belongs carrier ≡ false → Ground m n l v (sweep carrier) NoElement
   wrong-carrier : ¬ (m .elements .code (taken m (v .row) (newest m (v .outgoing)) .0) ≡ m .elements .code (newest m (v .incoming))) → Ground m n l v take-back WrongCarrier
 
--- the order in which the rules are looked at; the last five refusals are none of a running bench
+-- the order in which the rules are looked at; a raise on a map that is not returning is refused before any, and the last five are no refusals of a running bench
 abbrev pub rank : Refusal → ℕ
 rank NotReturning = 0
 rank ShortMemory = 1
