@@ -20,5 +20,5 @@ pub modulus-bounds : (m : ℕ) → T (is-modulus m) → (1 ≤ m) × (m ≤ 6553
 modulus-bounds m h = let e = holds _ h in (grind (arith, tells), grind (arith, tells))
 
 -- the completed exchange of two elements is the rule's
-pub on-elements : {E : Type 0} (belongs : E → Bool) (f : Exchange E) (x y : E) → belongs x ≡ true → belongs y ≡ true → guarded belongs f x y ≡ f x y
-on-elements belongs f x y p q = simp (p, q)
+pub on-elements : {E : Type 0} (belongs : E → Bool) (f : Exchange E) (x y : E) → true ≡ belongs x → true ≡ belongs y → guarded belongs f x y ≡ f x y
+on-elements belongs f x y p q = simp (sym p, sym q)
