@@ -4,3 +4,6 @@ pub mod Conjugation
 pub mod Images
 pub mod PermutationLaws
 pub mod Arrays
+pub mod Residues
+pub mod AffineLaws
+pub mod Euclid

@@ -1,3 +1,4 @@
 pub mod Making
 pub mod Phases
 pub mod Permutations
+pub mod Affine

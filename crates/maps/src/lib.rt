@@ -1,9 +1,12 @@
 // Maps of the exchange interface: phases, permutations and affine residues.
 // Each is a rule on its elements, completed for all values, and proved lawful; a map's parameters are checked where the map is made.
+pub mod affine;
 pub mod permutations;
 pub mod phases;
 pub mod soliton;
 
+pub use affine::Affine;
+pub use affine::AffineMap;
 pub use permutations::Permutations;
 pub use permutations::PermutationsMap;
 pub use phases::Phases;
