@@ -1,7 +1,7 @@
 -- The rule of affine residues keeps the laws. Assumes nothing.
-use Prim.Native.Nat.{ℕ, zero, suc, _+_, _-_, _*_, _%_, _≤_, _<_}
+use Prim.Native.Nat.{ℕ, zero, suc, _+_, _-_, _*_, _%_, _<_}
 use mathlib.Core.Path.{_≡_, refl, sym, ap, subst, _∙_}
-use mathlib.Core.Bool.{Bool, true, false, _&&_}
+use mathlib.Core.Bool.{true, false}
 use mathlib.Core.Logic.{_⊎_, inl, inr, ⊎-elim}
 use native.Mathlib.Nat.{mod-eq-of-lt, mod-lt}
 use native.Mathlib.Omega.{arith}
@@ -9,11 +9,11 @@ use lib.Dec.{T, eqb, ltb}
 use Rattle.std.proofs.shelf.Tests.{and-from, and-parts, cases-bool, cases-eq, eq-eqb, eqb-true, lt-ltb, ltb-true}
 use Rattle.std.proofs.shelf.Ways.{eqb-tells}
 use Rattle.exchange.specs.Laws.{Pair}
-use Rattle.exchange.specs.Rules.{Numbers, Sound, Trades}
-use Rattle.maps.specs.Affine.{Commute, affine-elements, affine-parameters, affine-rule, back, coprime, inverts, line}
+use Rattle.exchange.specs.Rules.{Sound}
+use Rattle.maps.specs.Affine.{Commute, Crossed, affine-elements, affine-parameters, affine-rule, back, coprime, inverts, line}
 use Rattle.maps.specs.Making.{is-modulus}
 use Rattle.maps.proofs.Bounds.{held, holds, modulus-bounds}
-use Rattle.maps.proofs.Residues.{Same, same-add, same-below, same-less, same-mod, same-mul}
+use Rattle.maps.proofs.Residues.{Same, same-add, same-less, same-mod, same-mul}
 
 pub both : {x y u v : ℕ} → x ≡ u → y ≡ v → _≡_ {A = ℕ × ℕ} (x, y) (u, v)
 both p q = cc
@@ -161,3 +161,12 @@ module _ (m a b c d i j : ℕ) (h : T (affine-parameters m a b c d)) (ti : T (in
   uncrossed u v p q =
       let k = parameters m a b c d (holds _ h) in
       both (unline-is-back m c d j (k .d-low) (inverse-same m c j tj) v (ltb-true v m (sym q))) (unline-is-back m a b i (k .b-low) (inverse-same m a i ti) u (ltb-true u m (sym p)))
+
+  pub uncross-crosses : (u v : ℕ) → Pair (affine-elements m) u v → Crossed m a b c d (affine-rule m a b c d .uncross u v .0) (affine-rule m a b c d .uncross u v .1) u v
+  uncross-crosses u v t =
+      let p = ltb-true u m (holds _ (t .0)) in
+      let q = ltb-true v m (holds _ (t .1)) in
+      let k = parameters m a b c d (holds _ h) in
+      let ia = inverse-same m a i ti in
+      let ic = inverse-same m c j tj in
+      record { x-low = back-low m c d j (k .d-low) ic v q; y-low = back-low m a b i (k .b-low) ia u p; left = line-back m a b i (k .b-low) ia u p; right = line-back m c d j (k .d-low) ic v q }

@@ -1,22 +1,21 @@
 -- The steps of the loops over eight places. Assumes nothing.
-use Prim.Native.Nat.{ℕ, _+_, _-_, _*_, _/_, _%_, _^_, _≤_, _<_}
-use mathlib.Core.Path.{_≡_, refl, sym, ap, _∙_}
-use mathlib.Core.Bool.{Bool, true, false}
+use Prim.Native.Nat.{ℕ, _+_, _-_, _*_, _^_, _≤_, _<_}
+use mathlib.Core.Path.{_≡_, sym, ap, _∙_}
+use mathlib.Core.Bool.{false}
 use mathlib.Core.List.{List}
 use mathlib.Core.Logic.{_≢_, ⊎-elim}
 use native.Mathlib.Nat.{pow-le-pow-right}
 use native.Mathlib.Omega.{arith}
 use borrow.Author.Count.{below-more}
-use lib.Dec.{T}
 use lib.ListN.{length, drop, set}
 use Rattle.std.specs.shelf.Lists.{Has}
 use Rattle.std.proofs.shelf.Elements.{all-drop}
 use Rattle.std.proofs.shelf.Lists.{at-drop-more, drop-all, getD-default, getD-set-other, getD-set-same, length-drop, length-set}
 use Rattle.std.proofs.shelf.Tests.{cases-bool}
-use Rattle.maps.specs.Permutations.{eight, image, inverse, perm-belongs, perm-code, place, times}
+use Rattle.maps.specs.Permutations.{eight, image, inverse, perm-belongs, place, times}
 use Rattle.maps.proofs.Bounds.{held}
 use Rattle.maps.proofs.Images.{Perm, image-of, met, perm, place-of, place-small, small}
-use Rattle.maps.proofs.PermutationLaws.{code-weighs, digits, image-eight, inverse-image, length-eight, same, weigh, weigh-lt}
+use Rattle.maps.proofs.PermutationLaws.{digits, image-eight, inverse-image, length-eight, same, weigh, weigh-lt}
 
 -- a list of eight whose first n places hold f
 pub record Filled (f : ℕ → ℕ) (z : List ℕ) (n : ℕ) : Type 0 where

@@ -1,7 +1,7 @@
 -- What the tests of maps say as facts. Assumes nothing.
 use Prim.Native.Nat.{ℕ, _≤_}
-use mathlib.Core.Path.{_≡_, refl, sym, subst, ap, _∙_}
-use mathlib.Core.Bool.{Bool, true, false, cond, _&&_}
+use mathlib.Core.Path.{_≡_, refl, sym, subst}
+use mathlib.Core.Bool.{Bool, true, false}
 use lib.Dec.{T}
 use Rattle.std.proofs.shelf.Ways.{tells}
 use native.Mathlib.Omega.{arith}

@@ -1,5 +1,5 @@
 -- Conjugation in a group is a lawful exchange. Assumes nothing.
-use mathlib.Core.Path.{_≡_, refl, sym, ap, _∙_}
+use mathlib.Core.Path.{_≡_, sym, ap, _∙_}
 use mathlib.Core.Bool.{Bool}
 use lib.Dec.{T}
 

@@ -1,7 +1,7 @@
 -- Euclid's algorithm, with the factor of each remainder. Assumes nothing.
-use Prim.Native.Nat.{ℕ, zero, suc, _+_, _-_, _*_, _/_, _%_, _≤_, _<_, _∣_}
+use Prim.Native.Nat.{ℕ, suc, _+_, _-_, _*_, _/_, _%_, _≤_, _<_, _∣_}
 use mathlib.Core.Path.{_≡_, refl, sym, ap, subst, _∙_}
-use mathlib.Core.Bool.{Bool, true, false, not, _&&_}
+use mathlib.Core.Bool.{true, false, not, _&&_}
 use mathlib.Core.Logic.{⊎-elim}
 use native.Mathlib.Nat.{div-add-mod, dvd-mod-iff, dvd-mul-right-of-dvd, dvd-of-mod-eq-zero, dvd-one, dvd-refl, dvd-zero, mod-eq-zero-of-dvd, mod-lt}
 use native.Mathlib.Omega.{arith}

@@ -1,19 +1,18 @@
 -- The rule of permutations keeps the laws: they form a group, and their codes are numbers to the base 8. Assumes nothing.
 use Prim.Native.Nat.{ℕ, zero, suc, _+_, _*_, _/_, _%_, _^_, _<_}
 use mathlib.Core.Path.{_≡_, refl, sym, ap, subst, _∙_}
-use mathlib.Core.Bool.{Bool, true, _&&_}
 use mathlib.Core.List.{List, [], _∷_}
 use native.Mathlib.Nat.{div-div-eq-div-mul, pow-succ'}
 use native.Mathlib.Omega.{arith}
-use lib.Dec.{T, ltb}
-use lib.ListN.{length, getD}
+use lib.Dec.{T}
+use lib.ListN.{length}
 use Rattle.std.proofs.shelf.Counted.{getD-map-counting}
 use Rattle.std.specs.shelf.Lists.{All}
 use Rattle.std.proofs.shelf.Elements.{all-from-getD}
 use Rattle.std.proofs.shelf.Lists.{ext-getD}
 use Rattle.std.proofs.shelf.Tests.{and-from, and-parts, lt-ltb, ltb-true}
-use Rattle.exchange.specs.Laws.{Braids, Pair, first, last}
-use Rattle.exchange.specs.Rules.{Numbers, Sound, Trades}
+use Rattle.exchange.specs.Laws.{Braids, Pair, first}
+use Rattle.exchange.specs.Rules.{Numbers, Sound}
 use Rattle.maps.specs.Permutations.{Conjugates, conjugate, eight, identity, image, images, inverse, perm-belongs, perm-code, perm-cross, perm-elements, perm-rule, perm-uncross, place, product}
 use Rattle.maps.proofs.Bounds.{held, holds}
 use Rattle.maps.proofs.Conjugation.{Group, conj-belongs, conj-conj, conj-is, conj-only, unconj-belongs, unconj-is, unconj-only}

@@ -1,19 +1,19 @@
 -- The phase rule keeps the laws of a returning map. Assumes nothing.
-use Prim.Native.Nat.{ℕ, _+_, _-_, _*_, _/_, _%_, _≤_, _<_, min}
+use Prim.Native.Nat.{ℕ, _+_, _-_, _*_, _/_, _%_, _≤_, _<_}
 use mathlib.Core.Path.{_≡_, refl, sym, ap, subst, _∙_}
-use mathlib.Core.Bool.{Bool, true, false, cond, _&&_}
+use mathlib.Core.Bool.{true, false}
 use mathlib.Core.Logic.{_⊎_, inl, inr, ⊎-elim}
-use native.Mathlib.Nat.{add-mul-mod-self-left, div-add-mod, mod-add-mod, add-mod-mod, mod-eq-of-lt, mod-lt}
+use native.Mathlib.Nat.{mod-add-mod, add-mod-mod, mod-eq-of-lt, mod-lt}
 use native.Mathlib.Omega.{arith}
-use lib.Dec.{T, eqb, leb, ltb}
-use Rattle.std.proofs.shelf.Tests.{eqb-true, eqb-false, eq-eqb, ne-eqb}
+use lib.Dec.{T, eqb}
+use Rattle.std.proofs.shelf.Tests.{eq-eqb, ne-eqb}
 use Rattle.std.proofs.shelf.Ways.{eqb-tells, tells}
-use Rattle.exchange.specs.Meaning.{Elements, Exchange}
 use Rattle.exchange.specs.Laws.{All, Braids, Keeps, Pair, Undoes, first, last}
 use Rattle.exchange.specs.Rules.{Numbers, Returns, Sound, Trades}
 use Rattle.maps.specs.Making.{is-modulus}
 use Rattle.maps.specs.Phases.{Passage, gained, lost, passes, phase-belongs, phase-cross, phase-elements, phase-rule, shift, soliton}
 use Rattle.maps.proofs.Bounds.{held, holds, modulus-bounds}
+use Rattle.maps.proofs.Residues.{rest-of, same-less}
 use Rattle.maps.specs.declared.soliton.Soliton.{Soliton}
 
 tupled : {a b c d : ℕ} → a ≡ c → b ≡ d → _≡_ {A = ℕ × ℕ} (a, b) (c, d)
@@ -32,9 +32,8 @@ module _ (m : ℕ) where
 
   back : (t p : ℕ) → p < m → lost m t (gained m t p) ≡ p
   back t p h =
-      let q : ℕ = t / m in
-      let e : (p + t) + (m - t % m) ≡ p + m * (q + 1) = omega (arith, div-add-mod t m, mod-lt t {m = m} (omega arith)) in
-      mod-add-mod (p + t) m (m - t % m) ∙ (ap (λ s. s % m) e ∙ (add-mul-mod-self-left p m (q + 1) ∙ mod-eq-of-lt h))
+      let e : (p + t) + (m - t % m) ≡ p + m * (t / m + 1) = omega (arith, rest-of m t (omega arith)) in
+      mod-add-mod (p + t) m (m - t % m) ∙ (ap (λ s. s % m) e ∙ (same-less m p (t / m + 1) ∙ mod-eq-of-lt h))
 
   forth : (t p : ℕ) → p < m → gained m t (lost m t p) ≡ p
   forth t p h = commute t _ p ∙ back t p h

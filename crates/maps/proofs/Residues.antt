@@ -1,7 +1,7 @@
 -- Numbers that are the same modulo m. Assumes nothing.
-use Prim.Native.Nat.{ℕ, _+_, _-_, _*_, _/_, _%_, _≤_, _<_}
+use Prim.Native.Nat.{ℕ, _+_, _-_, _*_, _/_, _%_, _<_}
 use mathlib.Core.Path.{_≡_, refl, sym, ap, _∙_}
-use native.Mathlib.Nat.{add-mul-mod-self-left, div-add-mod, add-mod, mod-lt, mod-mod, mod-eq-of-lt}
+use native.Mathlib.Nat.{add-mul-mod-self-left, div-add-mod, add-mod, mod-lt, mod-mod}
 use native.Mathlib.Omega.{arith}
 
 abbrev pub Same : ℕ → ℕ → ℕ → Type 0
@@ -37,6 +37,3 @@ module _ (m : ℕ) where
       let f : (x + z) + r ≡ x + m * q = omega (arith, rest-of z h) in
       let g : (y + z) + r ≡ y + m * q = omega (arith, rest-of z h) in
       sym (same-less x q) ∙ (ap (λ n. n % m) (sym f) ∙ (same-add (x + z) r (y + z) r e refl ∙ (ap (λ n. n % m) g ∙ same-less y q)))
-
-  pub same-below : (x y : ℕ) → x < m → y < m → Same m x y → x ≡ y
-  same-below x y h k e = sym (mod-eq-of-lt h) ∙ (e ∙ mod-eq-of-lt k)

@@ -4,6 +4,7 @@ use mathlib.Core.Path.{_≡_}
 use mathlib.Core.Bool.{Bool, true, cond, not, _&&_}
 use lib.Dec.{eqb, ltb}
 use Rattle.exchange.specs.Meaning.{Elements, Meaning}
+use Rattle.exchange.specs.Rules.{completed}
 use Rattle.maps.specs.Making.{is-modulus}
 
 -- the affine map x ↦ a x + b modulo m
@@ -51,6 +52,9 @@ affine-rule m a b c d = record {
   uncross = λ u v. (back (line m c d) m v, back (line m a b) m u);
 }
 
+abbrev pub affine-map : ℕ → ℕ → ℕ → ℕ → ℕ → Meaning ℕ
+affine-map m a b c d = completed (affine-rule m a b c d)
+
 -- the two maps commute on every residue
 abbrev pub Commute : ℕ → ℕ → ℕ → ℕ → ℕ → Type 0
 Commute m a b c d = (x : ℕ) → x < m → line m a b (line m c d x) ≡ line m c d (line m a b x)
@@ -58,3 +62,10 @@ Commute m a b c d = (x : ℕ) → x < m → line m a b (line m c d x) ≡ line m
 -- i below m undoes multiplication by a modulo m
 abbrev pub inverts : ℕ → ℕ → ℕ → Bool
 inverts m a i = ltb i m && eqb (a * i % m) (1 % m)
+
+-- u and v are what x and y cross to
+pub record Crossed (m a b c d x y u v : ℕ) : Type 0 where
+  pub x-low : x < m
+  pub y-low : y < m
+  pub left : line m a b y ≡ u
+  pub right : line m c d x ≡ v

@@ -8,6 +8,7 @@ use lib.ListN.{length, getD}
 use Rattle.std.specs.Iters.{counting}
 use Rattle.std.specs.shelf.Lists.{countBy, sum}
 use Rattle.exchange.specs.Meaning.{Elements, Exchange, Meaning}
+use Rattle.exchange.specs.Rules.{completed}
 
 abbrev pub image : List ℕ → ℕ → ℕ
 image x i = getD x i 0
@@ -73,6 +74,9 @@ perm-elements = record {
 
 abbrev pub perm-rule : Meaning (List ℕ)
 perm-rule = record { elements = perm-elements; cross = perm-cross; uncross = perm-uncross }
+
+abbrev pub perm-map : Meaning (List ℕ)
+perm-map = completed perm-rule
 
 -- z does to the images under y what x does to the places
 abbrev pub Conjugates : List ℕ → List ℕ → List ℕ → Type 0

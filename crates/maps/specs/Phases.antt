@@ -5,6 +5,7 @@ use mathlib.Core.Bool.{Bool, cond, _&&_}
 use mathlib.Core.Logic.{_⊎_}
 use lib.Dec.{eqb, leb, ltb}
 use Rattle.exchange.specs.Meaning.{Elements, Exchange, Meaning}
+use Rattle.exchange.specs.Rules.{completed}
 use Rattle.maps.specs.declared.soliton.Soliton.{Soliton}
 
 abbrev pub soliton : ℕ → ℕ → Soliton
@@ -45,6 +46,9 @@ phase-elements m = record {
 
 abbrev pub phase-rule : ℕ → Meaning Soliton
 phase-rule m = record { elements = phase-elements m; cross = phase-cross m; uncross = phase-cross m }
+
+abbrev pub phase-map : ℕ → Meaning Soliton
+phase-map m = completed (phase-rule m)
 
 -- two phases a shift apart, whichever is ahead
 abbrev pub Apart : ℕ → ℕ → ℕ → ℕ → Type 0

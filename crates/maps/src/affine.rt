@@ -1,7 +1,7 @@
 // Affine residues: the numbers below a modulus, crossed by two affine maps that commute.
 ghost use Prim.Native.Nat.{_+_, _-_, _*_, _%_, _<_};
-ghost use Rattle.exchange.specs.Rules.{completed};
-ghost use Rattle.maps.specs.Affine.{Commute, affine-parameters, affine-rule, coprime, inverts, line};
+ghost use Rattle.exchange.specs.Laws.{Pair};
+ghost use Rattle.maps.specs.Affine.{Commute, Crossed, affine-elements, affine-map, affine-parameters, coprime, inverts, line};
 ghost use Rattle.maps.specs.Making.{Makes, is-modulus};
 ghost use Rattle.std.specs.Results.{Cases};
 ghost use lib.Dec.{T};
@@ -85,7 +85,7 @@ impl Affine {
 pub impl ExchangeMap for Affine as AffineMap {
     type Elem = u32;
 
-    ghost meaning = { λ s. completed (affine-rule (s .modulus) (s .a) (s .b) (s .c) (s .d)) };
+    ghost meaning = { λ s. affine-map (s .modulus) (s .a) (s .b) (s .c) (s .d) };
 
     fn belongs(&self, x: u32) -> bool {
         x < self.modulus
@@ -96,7 +96,7 @@ pub impl ExchangeMap for Affine as AffineMap {
     }
 
     fn code(&self, x: u32) -> u32 {
-        if self.belongs(x) { x } else { 4294967295 }
+        if self.belongs(x) { x } else { u32::MAX }
     }
 
     fn is_code(&self, n: u32) -> bool {
@@ -120,7 +120,10 @@ pub impl ExchangeMap for Affine as AffineMap {
         (new_left, new_right)
     }
 
-    fn uncross(&self, left: u32, right: u32) -> (u32, u32) {
+    fn uncross(&self, left: u32, right: u32) -> (u32, u32)
+        ensures value { λ r. ⌜ (let s = now (self .entry) in r ≡ affine-map (s .modulus) (s .a) (s .b) (s .c) (s .d) .uncross left right) ⌝ }
+        ensures found { λ r. ⌜ (let s = now (self .entry) in Pair (affine-elements (s .modulus)) left right → Crossed (s .modulus) (s .a) (s .b) (s .c) (s .d) (r .0) (r .1) left right) ⌝ }
+    {
         if !self.belongs(left) || !self.belongs(right) {
             return (left, right);
         }

@@ -13,3 +13,6 @@ pub use phases::Phases;
 pub use phases::PhasesMap;
 pub use phases::PhasesReturning;
 pub use soliton::Soliton;
+pub use soliton::SolitonDebug;
+pub use soliton::SolitonEq;
+pub use soliton::SolitonPartialEq;

@@ -1,7 +1,6 @@
 // Permutations of 0 to 7: a pair crosses by conjugation.
 ghost use Rattle.exchange.specs.Laws.{Pair};
-ghost use Rattle.exchange.specs.Rules.{completed};
-ghost use Rattle.maps.specs.Permutations.{Conjugates, conjugate, images, inverse, perm-belongs, perm-code, perm-elements, perm-rule, product};
+ghost use Rattle.maps.specs.Permutations.{Conjugates, conjugate, images, inverse, perm-belongs, perm-code, perm-elements, perm-map, product};
 ghost use lib.Dec.{T};
 ghost use mathlib.Core.Path.{_≡_};
 use exchange::ExchangeMap;
@@ -65,7 +64,7 @@ fn code_of(x: [u8; 8]) -> u32
 pub impl ExchangeMap for Permutations as PermutationsMap {
     type Elem = [u8; 8];
 
-    ghost meaning = { λ _. completed perm-rule };
+    ghost meaning = { λ _. perm-map };
 
     fn belongs(&self, x: [u8; 8]) -> bool {
         for v in 0..8 {
@@ -84,7 +83,7 @@ pub impl ExchangeMap for Permutations as PermutationsMap {
         if self.belongs(x) {
             code_of(x)
         } else {
-            4294967295
+            u32::MAX
         }
     }
 
@@ -105,7 +104,7 @@ pub impl ExchangeMap for Permutations as PermutationsMap {
     }
 
     fn cross(&self, left: [u8; 8], right: [u8; 8]) -> ([u8; 8], [u8; 8])
-        ensures value { λ r. ⌜ r ≡ completed perm-rule .cross left right ⌝ }
+        ensures value { λ r. ⌜ r ≡ perm-map .cross left right ⌝ }
         ensures conjugates { λ r. ⌜ (Pair perm-elements left right → Conjugates left right (r .1)) ⌝ }
     {
         if !self.belongs(left) || !self.belongs(right) {
@@ -115,7 +114,7 @@ pub impl ExchangeMap for Permutations as PermutationsMap {
     }
 
     fn uncross(&self, left: [u8; 8], right: [u8; 8]) -> ([u8; 8], [u8; 8])
-        ensures value { λ r. ⌜ r ≡ completed perm-rule .uncross left right ⌝ }
+        ensures value { λ r. ⌜ r ≡ perm-map .uncross left right ⌝ }
         ensures conjugates { λ r. ⌜ (Pair perm-elements left right → Conjugates (r .0) left right) ⌝ }
     {
         if !self.belongs(left) || !self.belongs(right) {

@@ -1,9 +1,8 @@
 // Phases: solitons of unequal kinds pass each other, and their phases shift.
 ghost use Prim.Native.Nat.{_+_, _%_, _<_, _≤_};
 ghost use Rattle.exchange.specs.Laws.{Pair, Returning};
-ghost use Rattle.exchange.specs.Rules.{completed};
 ghost use Rattle.maps.specs.Making.{Makes, is-modulus};
-ghost use Rattle.maps.specs.Phases.{Passage, gained, lost, passes, phase-elements, phase-rule};
+ghost use Rattle.maps.specs.Phases.{Passage, gained, lost, passes, phase-elements, phase-map};
 ghost use lib.Dec.{T};
 ghost use mathlib.Core.Path.{_≡_};
 use crate::soliton::Soliton;
@@ -60,7 +59,7 @@ impl Phases {
 pub impl ExchangeMap for Phases as PhasesMap {
     type Elem = Soliton;
 
-    ghost meaning = { λ s. completed (phase-rule (s .modulus)) };
+    ghost meaning = { λ s. phase-map (s .modulus) };
 
     fn belongs(&self, x: Soliton) -> bool {
         x.kind > 0 && x.phase < self.modulus
@@ -74,7 +73,7 @@ pub impl ExchangeMap for Phases as PhasesMap {
         if self.belongs(x) {
             65536 * u32::from(x.kind) + u32::from(x.phase)
         } else {
-            4294967295
+            u32::MAX
         }
     }
 
@@ -98,8 +97,8 @@ pub impl ExchangeMap for Phases as PhasesMap {
     }
 
     fn cross(&self, left: Soliton, right: Soliton) -> (Soliton, Soliton)
-        ensures value { λ r. ⌜ r ≡ completed (phase-rule (now (self .entry) .modulus)) .cross left right ⌝ }
-        ensures passage { λ r. ⌜ (Pair (phase-elements (now (self .entry) .modulus)) left right → (left .kind ≡ right .kind → ⊥) → Passage (now (self .entry) .modulus) left right (r .0) (r .1)) ⌝ }
+        ensures value { λ r. ⌜ r ≡ phase-map (now (self .entry) .modulus) .cross left right ⌝ }
+        ensures passage { λ r. ⌜ (let m = now (self .entry) .modulus in Pair (phase-elements m) left right → (left .kind ≡ right .kind → ⊥) → Passage m left right (r .0) (r .1)) ⌝ }
     {
         if left.kind == right.kind || !self.belongs(left) || !self.belongs(right) {
             return (left, right);

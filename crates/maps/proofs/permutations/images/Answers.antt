@@ -1,6 +1,5 @@
 use Prim.Native.Nat.{_/_, _%_, _^_}
 use mathlib.Core.Path.{refl, ap, sym, _∙_}
-use native.Mathlib.Omega.{arith}
 use native.Mathlib.Nat.{div-div-eq-div-mul, div-one, pow-suc}
 use native.Mathlib.Numerals.{add-one}
 use Rattle.maps.proofs.Arrays.{filled-all, filled-more, filled-none}

@@ -1,5 +1,4 @@
-use mathlib.Core.Path.{refl, sym, subst}
-use mathlib.Core.Bool.{true}
+use mathlib.Core.Path.{sym}
 use borrow.Author.Needs.{needs}
 use native.Mathlib.Omega.{arith}
 use borrow.Author.Count.{below-more}

@@ -9,8 +9,8 @@ use Rattle.maps.proofs.permutations.PermutationsMap.uncross.Needs as need
 
 pub product-requires-2 : need.product-requires-2
 product-requires-2 c κs =
-    let p = subst T (c .if-not-belongs .ensures tt) tt in
-    let q = subst T (c .if-not-belongs-2 .ensures tt) tt in
+    let p = subst T {y = perm-belongs (c .args .left)} (c .if-not-belongs .ensures tt) tt in
+    let q = subst T {y = perm-belongs (c .args .right)} (c .if-not-belongs-2 .ensures tt) tt in
     subst (λ (w : List ℕ). T (perm-belongs w)) (sym (c .product .ensures)) (group .mul-belongs (c .args .left) (c .args .right) p q)
 
 pub returns : need.returns
