@@ -13,7 +13,7 @@ use Rattle.std.proofs.shelf.Lists.{ext-getD}
 use Rattle.std.proofs.shelf.Tests.{and-from, and-parts, lt-ltb, ltb-true}
 use Rattle.exchange.specs.Laws.{Braids, Pair, first}
 use Rattle.exchange.specs.Rules.{Numbers, Sound}
-use Rattle.maps.specs.Permutations.{Conjugates, conjugate, eight, identity, image, images, inverse, perm-belongs, perm-code, perm-cross, perm-elements, perm-rule, perm-uncross, place, product}
+use Rattle.maps.specs.Permutations.{Conjugates, conjugate, eight, identity, image, images, inverse, perm-belongs, perm-code, perm-cross, perm-elements, perm-rule, perm-uncross, place, product, unconjugate}
 use Rattle.maps.proofs.Bounds.{held, holds}
 use Rattle.maps.proofs.Conjugation.{Group, conj-belongs, conj-conj, conj-is, conj-only, unconj-belongs, unconj-is, unconj-only}
 use Rattle.maps.proofs.Images.{Perm, image-of, perm, perm-from, perm-held, place-of, place-small, small}
@@ -66,6 +66,9 @@ group = record {
       let P = perm x p in
       same (length-eight _) (length-eight _) (λ i h. product-image x (inverse x) i h ∙ (inverse-image x _ (small P i h) ∙ (place-of P i h ∙ sym (identity-image i h))));
 }
+
+pub made-element : {x y : List ℕ} → x ≡ y → T (perm-belongs y) → T (perm-belongs x)
+made-element e h = subst (λ (w : List ℕ). T (perm-belongs w)) (sym e) h
 
 weighed : (n : ℕ) → n < 8 ^ 8 → perm-code (images n) ≡ n
 unfolding eight
@@ -136,8 +139,8 @@ perm-sound = record {
 conjugates : (x y z : List ℕ) → product y z ≡ product x y → Conjugates x y z
 conjugates x y z e i h = sym (product-image y z i h) ∙ (ap (λ (w : List ℕ). image w i) e ∙ product-image x y i h)
 
-pub cross-conjugates : (x y : List ℕ) → Pair perm-elements x y → Conjugates x y (conjugate x y)
-cross-conjugates x y h = conjugates x y (conjugate x y) (conj-is group x y (h .0) (h .1))
+pub conjugate-conjugates : (x y : List ℕ) → T (perm-belongs x) → T (perm-belongs y) → Conjugates x y (conjugate x y)
+conjugate-conjugates x y p q = conjugates x y (conjugate x y) (conj-is group x y p q)
 
-pub uncross-conjugates : (u v : List ℕ) → Pair perm-elements u v → Conjugates (perm-uncross u v .0) u v
-uncross-conjugates u v h = conjugates (product (product u v) (inverse u)) u v (sym (unconj-is group u v (h .0) (h .1)))
+pub unconjugate-conjugates : (u v : List ℕ) → T (perm-belongs u) → T (perm-belongs v) → Conjugates (unconjugate u v) u v
+unconjugate-conjugates u v p q = conjugates (unconjugate u v) u v (sym (unconj-is group u v p q))

@@ -11,8 +11,8 @@ use Rattle.std.proofs.shelf.Ways.{eqb-tells, tells}
 use Rattle.exchange.specs.Laws.{All, Braids, Keeps, Pair, Undoes, first, last}
 use Rattle.exchange.specs.Rules.{Numbers, Returns, Sound, Trades}
 use Rattle.maps.specs.Making.{is-modulus}
-use Rattle.maps.specs.Phases.{Passage, gained, lost, passes, phase-belongs, phase-cross, phase-elements, phase-rule, shift, soliton}
-use Rattle.maps.proofs.Bounds.{held, holds, modulus-bounds}
+use Rattle.maps.specs.Phases.{Passage, gained, lost, passes, phase-belongs, phase-cross, phase-elements, phase-map, phase-rule, shift, soliton}
+use Rattle.maps.proofs.Bounds.{held, holds, modulus-bounds, on-elements}
 use Rattle.maps.proofs.Residues.{rest-of, same-less}
 use Rattle.maps.specs.declared.soliton.Soliton.{Soliton}
 
@@ -44,7 +44,7 @@ module _ (m : ℕ) where
   stays : (x y : Soliton) → x .kind ≡ y .kind → phase-cross m x y ≡ (x, y)
   stays x y e = simp (eq-eqb (x .kind) (y .kind) e)
 
-  pub moves : (x y : Soliton) → (x .kind ≡ y .kind → ⊥) → phase-cross m x y ≡ passes m x y
+  moves : (x y : Soliton) → (x .kind ≡ y .kind → ⊥) → phase-cross m x y ≡ passes m x y
   moves x y n = simp (ne-eqb (x .kind) (y .kind) n)
 
   left-kind : (x y : Soliton) → phase-cross m x y .0 .kind ≡ y .kind
@@ -153,7 +153,7 @@ module _ (m : ℕ) where
       let l = lost m t p in
       mod-add-mod (q + t) m l ∙ (ap (λ s. s % m) (omega arith) ∙ (sym (add-mod-mod q (l + t) m) ∙ (ap (λ s. (q + s) % m) (forth t p h) ∙ ap (λ s. s % m) (omega arith))))
 
-  pub passage : (x y : Soliton) → Pair (phase-elements m) x y → Passage m x y (passes m x y .0) (passes m x y .1)
+  passage : (x y : Soliton) → Pair (phase-elements m) x y → Passage m x y (passes m x y .0) (passes m x y .1)
   passage x y h =
       let t = shift x y in
       let p = elements m (x .kind) (x .phase) (h .0) in
@@ -164,3 +164,8 @@ module _ (m : ℕ) where
         right-moved = inl (sym (forth t (x .phase) (p .2)));
         sum-kept = sum-kept t (x .phase) (y .phase) (p .2);
       }
+
+  pub cross-passage : (x y : Soliton) (r : Soliton × Soliton) → Pair (phase-elements m) x y → (x .kind ≡ y .kind → ⊥) → r ≡ phase-map m .cross x y → Passage m x y (r .0) (r .1)
+  cross-passage x y r h n e =
+      let f = on-elements (phase-belongs m) (phase-cross m) x y (sym (holds _ (h .0))) (sym (holds _ (h .1))) in
+      subst (λ (p : Soliton × Soliton). Passage m x y (p .0) (p .1)) (sym (e ∙ (f ∙ moves x y n))) (passage x y h)

@@ -45,15 +45,19 @@ product x y = eight (λ i. image y (image x i))
 abbrev pub inverse : List ℕ → List ℕ
 inverse x = eight (place x)
 
--- x seen through y
+-- x conjugated by y: y, x and y again, the first time backwards
 abbrev pub conjugate : List ℕ → List ℕ → List ℕ
 conjugate x y = product (product (inverse y) x) y
+
+-- the permutation whose conjugate by y is z
+abbrev pub unconjugate : List ℕ → List ℕ → List ℕ
+unconjugate y z = product (product y z) (inverse y)
 
 abbrev pub perm-cross : Exchange (List ℕ)
 perm-cross x y = (y, conjugate x y)
 
 abbrev pub perm-uncross : Exchange (List ℕ)
-perm-uncross u v = (product (product u v) (inverse u), u)
+perm-uncross u v = (unconjugate u v, u)
 
 abbrev pub perm-code : List ℕ → ℕ
 perm-code x = sum (eight (λ i. image x i * 8 ^ i))

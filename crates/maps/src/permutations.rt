@@ -1,6 +1,6 @@
 // Permutations of 0 to 7: a pair crosses by conjugation.
 ghost use Rattle.exchange.specs.Laws.{Pair};
-ghost use Rattle.maps.specs.Permutations.{Conjugates, conjugate, images, inverse, perm-belongs, perm-code, perm-elements, perm-map, product};
+ghost use Rattle.maps.specs.Permutations.{Conjugates, conjugate, images, inverse, perm-belongs, perm-code, perm-elements, perm-map, product, unconjugate};
 ghost use lib.Dec.{T};
 ghost use mathlib.Core.Path.{_≡_};
 use exchange::ExchangeMap;
@@ -9,9 +9,11 @@ use exchange::ExchangeMap;
 #[derive(Clone, Copy)]
 pub struct Permutations;
 
+// x first, then y.
 fn product(x: [u8; 8], y: [u8; 8]) -> [u8; 8]
-    requires { ⌜ T (perm-belongs x) ⌝ }
-    ensures { λ r. ⌜ r ≡ product x y ⌝ }
+    requires { ⌜ T (perm-belongs x) ⌝ ∗ ⌜ T (perm-belongs y) ⌝ }
+    ensures value { λ r. ⌜ r ≡ product x y ⌝ }
+    ensures element { λ r. ⌜ T (perm-belongs r) ⌝ }
 {
     let mut z = [0; 8];
     for i in 0..8 {
@@ -22,7 +24,8 @@ fn product(x: [u8; 8], y: [u8; 8]) -> [u8; 8]
 
 fn inverse(x: [u8; 8]) -> [u8; 8]
     requires { ⌜ T (perm-belongs x) ⌝ }
-    ensures { λ r. ⌜ r ≡ inverse x ⌝ }
+    ensures value { λ r. ⌜ r ≡ inverse x ⌝ }
+    ensures element { λ r. ⌜ T (perm-belongs r) ⌝ }
 {
     let mut z = [0; 8];
     for i in 0..8 {
@@ -31,11 +34,24 @@ fn inverse(x: [u8; 8]) -> [u8; 8]
     z
 }
 
+// x conjugated by y.
 fn conjugate(x: [u8; 8], y: [u8; 8]) -> [u8; 8]
     requires { ⌜ T (perm-belongs x) ⌝ ∗ ⌜ T (perm-belongs y) ⌝ }
-    ensures { λ r. ⌜ r ≡ conjugate x y ⌝ }
+    ensures value { λ r. ⌜ r ≡ conjugate x y ⌝ }
+    ensures element { λ r. ⌜ T (perm-belongs r) ⌝ }
+    ensures conjugates { λ r. ⌜ Conjugates x y r ⌝ }
 {
     product(product(inverse(y), x), y)
+}
+
+// The x whose conjugate by y is z.
+fn unconjugate(y: [u8; 8], z: [u8; 8]) -> [u8; 8]
+    requires { ⌜ T (perm-belongs y) ⌝ ∗ ⌜ T (perm-belongs z) ⌝ }
+    ensures value { λ r. ⌜ r ≡ unconjugate y z ⌝ }
+    ensures element { λ r. ⌜ T (perm-belongs r) ⌝ }
+    ensures conjugates { λ r. ⌜ Conjugates r y z ⌝ }
+{
+    product(product(y, z), inverse(y))
 }
 
 fn images(n: u32) -> [u8; 8]
@@ -120,6 +136,6 @@ pub impl ExchangeMap for Permutations as PermutationsMap {
         if !self.belongs(left) || !self.belongs(right) {
             return (left, right);
         }
-        (product(product(left, right), inverse(left)), left)
+        (unconjugate(left, right), left)
     }
 }

@@ -39,7 +39,7 @@ impl Phases {
         self.gained(phase, self.modulus - t % self.modulus)
     }
 
-    // The sign stands here.
+    // The sign stands here: the one that passes to the right loses the shift.
     fn pass(&self, left: Soliton, right: Soliton) -> (Soliton, Soliton)
         ensures { λ r. ⌜ r ≡ passes (now (self .entry) .modulus) left right ⌝ }
     {
@@ -96,10 +96,7 @@ pub impl ExchangeMap for Phases as PhasesMap {
         Soliton { kind: 1, phase: 0 }
     }
 
-    fn cross(&self, left: Soliton, right: Soliton) -> (Soliton, Soliton)
-        ensures value { λ r. ⌜ r ≡ phase-map (now (self .entry) .modulus) .cross left right ⌝ }
-        ensures passage { λ r. ⌜ (let m = now (self .entry) .modulus in Pair (phase-elements m) left right → (left .kind ≡ right .kind → ⊥) → Passage m left right (r .0) (r .1)) ⌝ }
-    {
+    fn cross(&self, left: Soliton, right: Soliton) -> (Soliton, Soliton) {
         if left.kind == right.kind || !self.belongs(left) || !self.belongs(right) {
             return (left, right);
         }
@@ -112,7 +109,11 @@ pub impl ExchangeMap for Phases as PhasesMap {
 }
 
 pub impl ReturningMap for Phases as PhasesReturning {
-    fn recross(&self, left: Soliton, right: Soliton) -> (Soliton, Soliton) {
+    fn recross(&self, left: Soliton, right: Soliton) -> (Soliton, Soliton)
+        ensures value { λ r. ⌜ r ≡ phase-map (now (self .entry) .modulus) .cross left right ⌝ }
+        ensures returning { λ _. ⌜ Returning (phase-map (now (self .entry) .modulus)) ⌝ }
+        ensures passage { λ r. ⌜ (let m = now (self .entry) .modulus in Pair (phase-elements m) left right → (left .kind ≡ right .kind → ⊥) → Passage m left right (r .0) (r .1)) ⌝ }
+    {
         self.cross(left, right)
     }
 }

@@ -1,15 +1,14 @@
 use mathlib.Core.List.{List}
-use mathlib.Core.Path.{sym, subst}
+use mathlib.Core.Path.{_≡_, sym, subst, ap, _∙_}
 use Prim.Native.Nat.{ℕ}
-use lib.Dec.{T}
-use Rattle.maps.specs.Permutations.{perm-belongs}
-use Rattle.maps.proofs.PermutationLaws.{group}
+use Rattle.maps.specs.Permutations.{Conjugates, conjugate, product}
+use Rattle.maps.proofs.PermutationLaws.{conjugate-conjugates}
 use Rattle.maps.proofs.permutations.conjugate.Needs as need
 
-pub product-requires : need.product-requires
-product-requires c κs = subst (λ (w : List ℕ). T (perm-belongs w)) (sym (c .inverse .ensures)) (group .inv-belongs (c .args .y) (c .pre .1))
-
-pub product-requires-2 : need.product-requires-2
-product-requires-2 c κs =
-    let i = subst (λ (w : List ℕ). T (perm-belongs w)) (sym (c .inverse .ensures)) (group .inv-belongs (c .args .y) (c .pre .1)) in
-    subst (λ (w : List ℕ). T (perm-belongs w)) (sym (c .product .ensures)) (group .mul-belongs (c .inverse .result) (c .args .x) i (c .pre .0))
+pub returns : need.returns
+returns c =
+    let x = c .args .x in
+    let y = c .args .y in
+    let e : c .product-2 .result ≡ conjugate x y =
+    c .product-2 .ensures .value ∙ ap (λ (w : List ℕ). product w y) (c .product .ensures .value ∙ ap (λ (w : List ℕ). product w x) (c .inverse .ensures .value)) in
+    record { value = e; element = c .product-2 .ensures .element; conjugates = subst (Conjugates x y) (sym e) (conjugate-conjugates x y (c .pre .0) (c .pre .1)) }

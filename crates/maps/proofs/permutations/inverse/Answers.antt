@@ -2,6 +2,7 @@ use mathlib.Core.Path.{refl}
 use native.Mathlib.Omega.{arith}
 use Rattle.maps.proofs.Arrays.{inverted-all, inverted-more, inverted-none}
 use Rattle.maps.proofs.Images.{perm, small}
+use Rattle.maps.proofs.PermutationLaws.{group, made-element}
 use Rattle.maps.proofs.permutations.inverse.Needs as need
 
 pub loop-i-holds : need.loop-i-holds
@@ -14,4 +15,6 @@ pub loop-i-again : need.loop-i-again
 loop-i-again c = inverted-more _ _ _ _ (perm (c .args .x) (c .pre)) (c .loop-i .inv) (c .loop-i-test .taken) (c .from .ensures)
 
 pub returns : need.returns
-returns c = inverted-all _ _ _ (perm (c .args .x) (c .pre)) (c .loop-i .inv) (c .loop-i-test .left)
+returns c =
+    let e = inverted-all _ _ _ (perm (c .args .x) (c .pre)) (c .loop-i .inv) (c .loop-i-test .left) in
+    record { value = e; element = made-element e (group .inv-belongs (c .args .x) (c .pre)) }
