@@ -8,14 +8,13 @@ use native.Mathlib.Omega.{arith}
 use lib.Dec.{T, eqb, ltb}
 use Rattle.std.proofs.shelf.Tests.{and-from, and-parts, cases-bool, cases-eq, eq-eqb, eqb-true, lt-ltb, ltb-true}
 use Rattle.std.proofs.shelf.Ways.{eqb-tells}
-use Rattle.exchange.specs.Laws.{Pair}
 use Rattle.exchange.specs.Rules.{Sound}
-use Rattle.maps.specs.Affine.{Commute, Crossed, affine-elements, affine-parameters, affine-rule, back, coprime, inverts, line}
+use Rattle.maps.specs.Affine.{Commute, affine-elements, affine-parameters, affine-rule, back, coprime, inverts, line}
 use Rattle.maps.specs.Making.{is-modulus}
 use Rattle.maps.proofs.Bounds.{held, holds, modulus-bounds}
 use Rattle.maps.proofs.Residues.{Same, same-add, same-less, same-mod, same-mul}
 
-pub both : {x y u v : ℕ} → x ≡ u → y ≡ v → _≡_ {A = ℕ × ℕ} (x, y) (u, v)
+both : {x y u v : ℕ} → x ≡ u → y ≡ v → _≡_ {A = ℕ × ℕ} (x, y) (u, v)
 both p q = cc
 
 -- the one number below n that f sends to v
@@ -155,18 +154,3 @@ module _ (m a b c d i j : ℕ) (h : T (affine-parameters m a b c d)) (ti : T (in
         cross-undoes = λ u v t. both (line-back m a b i (p .b-low) ia u (low u (t .0))) (line-back m c d j (p .d-low) ic v (low v (t .1)));
         braids = λ t u. ap (λ (w : ℕ). (line m a b (line m a b (t .2)), w, line m c d (line m c d (t .0)))) (sym (commute m a b c d (p .commuting) (t .1) (low (t .1) (u .1))));
       }
-
-  -- the two inverses give back the pair
-  pub uncrossed : (u v : ℕ) → true ≡ ltb u m → true ≡ ltb v m → _≡_ {A = ℕ × ℕ} ((j * (v + (m - d))) % m, (i * (u + (m - b))) % m) (affine-rule m a b c d .uncross u v)
-  uncrossed u v p q =
-      let k = parameters m a b c d (holds _ h) in
-      both (unline-is-back m c d j (k .d-low) (inverse-same m c j tj) v (ltb-true v m (sym q))) (unline-is-back m a b i (k .b-low) (inverse-same m a i ti) u (ltb-true u m (sym p)))
-
-  pub uncross-crosses : (u v : ℕ) → Pair (affine-elements m) u v → Crossed m a b c d (affine-rule m a b c d .uncross u v .0) (affine-rule m a b c d .uncross u v .1) u v
-  uncross-crosses u v t =
-      let p = ltb-true u m (holds _ (t .0)) in
-      let q = ltb-true v m (holds _ (t .1)) in
-      let k = parameters m a b c d (holds _ h) in
-      let ia = inverse-same m a i ti in
-      let ic = inverse-same m c j tj in
-      record { x-low = back-low m c d j (k .d-low) ic v q; y-low = back-low m a b i (k .b-low) ia u p; left = line-back m a b i (k .b-low) ia u p; right = line-back m c d j (k .d-low) ic v q }

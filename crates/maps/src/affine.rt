@@ -1,7 +1,7 @@
 // Affine residues: the numbers below a modulus, crossed by two affine maps that commute.
 ghost use Prim.Native.Nat.{_+_, _-_, _*_, _%_, _<_};
 ghost use Rattle.exchange.specs.Laws.{Pair};
-ghost use Rattle.maps.specs.Affine.{Commute, Crossed, affine-elements, affine-map, affine-parameters, coprime, inverts, line};
+ghost use Rattle.maps.specs.Affine.{Commute, Crossed, affine-elements, affine-map, affine-parameters, back, coprime, inverts, line};
 ghost use Rattle.maps.specs.Making.{Makes, is-modulus};
 ghost use Rattle.std.specs.Results.{Cases};
 ghost use lib.Dec.{T};
@@ -9,19 +9,23 @@ ghost use mathlib.Core.Path.{_≡_};
 use exchange::ExchangeMap;
 use exchange::Refusal;
 
-// f(y) = a y + b and g(x) = c x + d, with the inverses of a and c.
+// The affine map x to slope x + shift, with the inverse of its slope.
+#[derive(Clone, Copy)]
+struct Line {
+    slope: u32,
+    shift: u32,
+    inverse: u32,
+}
+
+// The map whose cross of x and y is f(y) and g(x), modulo `modulus`.
 #[derive(Clone, Copy)]
 pub struct Affine {
     modulus: u32,
-    a: u32,
-    b: u32,
-    c: u32,
-    d: u32,
-    a_inverse: u32,
-    c_inverse: u32,
-    ghost lawful: { T (affine-parameters modulus a b c d) },
-    ghost f_turns: { T (inverts modulus a «a_inverse») },
-    ghost g_turns: { T (inverts modulus c «c_inverse») },
+    f: Line,
+    g: Line,
+    ghost lawful: { T (affine-parameters modulus (f .slope) (f .shift) (g .slope) (g .shift)) },
+    ghost f_turns: { T (inverts modulus (f .slope) (f .inverse)) },
+    ghost g_turns: { T (inverts modulus (g .slope) (g .inverse)) },
 }
 
 // Euclid's algorithm: beside each remainder r its factor t, with a t and r the same modulo m.
@@ -43,49 +47,56 @@ fn inverse_modulo(a: u32, m: u32) -> Result<u32, Refusal>
     }
 }
 
-fn line(m: u32, slope: u32, shift: u32, x: u32) -> u32
-    requires { ⌜ T (is-modulus m) ⌝ ∗ ⌜ slope < m ⌝ ∗ ⌜ shift < m ⌝ ∗ ⌜ x < m ⌝ }
-    ensures { λ r. ⌜ r ≡ line m slope shift x ⌝ }
-{
-    (slope * x + shift) % m
-}
+impl Line {
+    fn at(self, m: u32, x: u32) -> u32
+        requires { ⌜ T (is-modulus m) ⌝ ∗ ⌜ self .slope < m ⌝ ∗ ⌜ self .shift < m ⌝ ∗ ⌜ x < m ⌝ }
+        ensures { λ r. ⌜ r ≡ line m (self .slope) (self .shift) x ⌝ }
+    {
+        (self.slope * x + self.shift) % m
+    }
 
-fn unline(m: u32, inverse: u32, shift: u32, y: u32) -> u32
-    requires { ⌜ T (is-modulus m) ⌝ ∗ ⌜ inverse < m ⌝ ∗ ⌜ shift < m ⌝ ∗ ⌜ y < m ⌝ }
-    ensures { λ r. ⌜ r ≡ (inverse * (y + (m - shift))) % m ⌝ }
-{
-    inverse * ((y + (m - shift)) % m) % m
+    fn back(self, m: u32, y: u32) -> u32
+        requires modulus { ⌜ T (is-modulus m) ⌝ }
+        requires turns { ⌜ T (inverts m (self .slope) (self .inverse)) ⌝ }
+        requires shift_low { ⌜ self .shift < m ⌝ }
+        requires y_low { ⌜ y < m ⌝ }
+        ensures value { λ r. ⌜ r ≡ back (line m (self .slope) (self .shift)) m y ⌝ }
+        ensures low { λ r. ⌜ r < m ⌝ }
+        ensures found { λ r. ⌜ line m (self .slope) (self .shift) r ≡ y ⌝ }
+    {
+        self.inverse * ((y + (m - self.shift)) % m) % m
+    }
 }
 
 impl Affine {
     pub fn new(m: u32, a: u32, b: u32, c: u32, d: u32) -> Result<Affine, Refusal>
-        ensures makes { λ r. ⌜ Makes (affine-parameters m a b c d) (λ s. (s .modulus ≡ m) × (s .a ≡ a) × (s .b ≡ b) × (s .c ≡ c) × (s .d ≡ d)) r ⌝ }
+        ensures makes { λ r. ⌜ Makes (affine-parameters m a b c d) (λ s. (s .modulus ≡ m) × (s .f .slope ≡ a) × (s .f .shift ≡ b) × (s .g .slope ≡ c) × (s .g .shift ≡ d)) r ⌝ }
         ensures commutes { λ r. ⌜ Cases r (λ _. Commute m a b c d) (λ _. Unit {0}) ⌝ }
     {
         if m < 1 || m > 65535 || a >= m || b >= m || c >= m || d >= m {
             return Err(Refusal::BadParameters);
         }
-        let a_inverse = inverse_modulo(a, m)?;
-        let c_inverse = inverse_modulo(c, m)?;
+        let f = Line {
+            slope: a,
+            shift: b,
+            inverse: inverse_modulo(a, m)?,
+        };
+        let g = Line {
+            slope: c,
+            shift: d,
+            inverse: inverse_modulo(c, m)?,
+        };
         if (a * d + b) % m != (c * b + d) % m {
             return Err(Refusal::BadParameters);
         }
-        Ok(Affine {
-            modulus: m,
-            a,
-            b,
-            c,
-            d,
-            a_inverse,
-            c_inverse,
-        })
+        Ok(Affine { modulus: m, f, g })
     }
 }
 
 pub impl ExchangeMap for Affine as AffineMap {
     type Elem = u32;
 
-    ghost meaning = { λ s. affine-map (s .modulus) (s .a) (s .b) (s .c) (s .d) };
+    ghost meaning = { λ s. affine-map (s .modulus) (s .f .slope) (s .f .shift) (s .g .slope) (s .g .shift) };
 
     fn belongs(&self, x: u32) -> bool {
         x < self.modulus
@@ -115,20 +126,22 @@ pub impl ExchangeMap for Affine as AffineMap {
         if !self.belongs(left) || !self.belongs(right) {
             return (left, right);
         }
-        let new_left = line(self.modulus, self.a, self.b, right);
-        let new_right = line(self.modulus, self.c, self.d, left);
-        (new_left, new_right)
+        (
+            self.f.at(self.modulus, right),
+            self.g.at(self.modulus, left),
+        )
     }
 
     fn uncross(&self, left: u32, right: u32) -> (u32, u32)
-        ensures value { λ r. ⌜ (let s = now (self .entry) in r ≡ affine-map (s .modulus) (s .a) (s .b) (s .c) (s .d) .uncross left right) ⌝ }
-        ensures found { λ r. ⌜ (let s = now (self .entry) in Pair (affine-elements (s .modulus)) left right → Crossed (s .modulus) (s .a) (s .b) (s .c) (s .d) (r .0) (r .1) left right) ⌝ }
+        ensures value { λ r. ⌜ (let s = now (self .entry) in r ≡ affine-map (s .modulus) (s .f .slope) (s .f .shift) (s .g .slope) (s .g .shift) .uncross left right) ⌝ }
+        ensures found { λ r. ⌜ (let s = now (self .entry) in Pair (affine-elements (s .modulus)) left right → Crossed (s .modulus) (s .f .slope) (s .f .shift) (s .g .slope) (s .g .shift) (r .0) (r .1) left right) ⌝ }
     {
         if !self.belongs(left) || !self.belongs(right) {
             return (left, right);
         }
-        let old_left = unline(self.modulus, self.c_inverse, self.d, right);
-        let old_right = unline(self.modulus, self.a_inverse, self.b, left);
-        (old_left, old_right)
+        (
+            self.g.back(self.modulus, right),
+            self.f.back(self.modulus, left),
+        )
     }
 }

@@ -4,6 +4,8 @@ pub mod affine;
 pub mod permutations;
 pub mod phases;
 pub mod soliton;
+#[cfg(test)]
+mod tests;
 
 pub use affine::Affine;
 pub use affine::AffineMap;

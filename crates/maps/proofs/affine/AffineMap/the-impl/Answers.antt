@@ -3,4 +3,4 @@ use Rattle.maps.proofs.AffineLaws.{affine-sound}
 use Rattle.maps.proofs.affine.AffineMap.the-impl.Needs as need
 
 pub lawful-law : need.lawful-law
-lawful-law s = completed-lawful (affine-sound (s .modulus) (s .a) (s .b) (s .c) (s .d) (s .«a_inverse») (s .«c_inverse») (s .lawful) (s .«f_turns») (s .«g_turns»))
+lawful-law s = completed-lawful (affine-sound (s .modulus) (s .f .slope) (s .f .shift) (s .g .slope) (s .g .shift) (s .f .inverse) (s .g .inverse) (s .lawful) (s .«f_turns») (s .«g_turns»))
