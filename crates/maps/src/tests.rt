@@ -1,9 +1,14 @@
 // The worked examples, and the values at the bounds.
-use crate::affine::Affine;
-use crate::permutations::Permutations;
-use crate::phases::Phases;
-use crate::soliton::Soliton;
+use crate::Affine;
+use crate::AffineMap;
+use crate::Permutations;
+use crate::PermutationsMap;
+use crate::Phases;
+use crate::PhasesMap;
+use crate::Soliton;
+use crate::SolitonPartialEq;
 use exchange::ExchangeMap;
+use exchange::RefusalDebug;
 use std::test::*;
 
 #[test]
