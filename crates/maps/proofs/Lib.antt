@@ -1,1 +1,10 @@
-pub mod Carriers
+pub mod Bounds
+pub mod PhaseLaws
+pub mod Conjugation
+pub mod Images
+pub mod PermutationLaws
+pub mod Arrays
+pub mod Residues
+pub mod AffineLaws
+pub mod Euclid
+pub mod CarrierLaws

@@ -38,5 +38,5 @@ holders = record {
 abbrev pub rule : Meaning Holder
 rule = record { elements = holders; cross = carried; uncross = carried }
 
-abbrev pub capacity-boxes : Meaning Holder
-capacity-boxes = completed rule
+abbrev pub capacity-map : Meaning Holder
+capacity-map = completed rule

@@ -1,6 +1,6 @@
 // Capacity boxes: an element is a capacity and the balls held, of a box in the row or of a carrier.
 ghost use Rattle.exchange.specs.Laws.{Returning};
-ghost use Rattle.maps.specs.Capacity.{capacity-boxes};
+ghost use Rattle.maps.specs.Capacity.{capacity-map};
 ghost use mathlib.Core.Path.{_≡_};
 use exchange::ExchangeMap;
 use exchange::ReturningMap;
@@ -17,7 +17,7 @@ pub struct Capacity;
 pub impl ExchangeMap for Capacity as CapacityMap {
     type Elem = Holder;
 
-    ghost meaning = { λ _. capacity-boxes };
+    ghost meaning = { λ _. capacity-map };
 
     fn belongs(&self, x: Holder) -> bool {
         x.capacity >= 1 && x.balls <= x.capacity

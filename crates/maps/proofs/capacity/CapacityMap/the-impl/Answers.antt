@@ -1,5 +1,5 @@
 use Rattle.exchange.proofs.Completion.{completed-lawful}
-use Rattle.maps.proofs.Carriers.{sound}
+use Rattle.maps.proofs.CarrierLaws.{sound}
 use Rattle.maps.proofs.capacity.CapacityMap.the-impl.Needs as need
 
 pub lawful-law : need.lawful-law

@@ -1,5 +1,5 @@
 use Rattle.exchange.proofs.Completion.{completed-returning}
-use Rattle.maps.proofs.Carriers.{returns as carriers-return, sound}
+use Rattle.maps.proofs.CarrierLaws.{returns as carriers-return, sound}
 use Rattle.maps.proofs.capacity.CapacityReturning.recross.Needs as need
 
 pub returns : need.returns
