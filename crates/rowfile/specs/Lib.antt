@@ -1,0 +1,4 @@
+pub mod Lines
+pub mod Headings
+pub mod Files
+pub mod Faults

@@ -1,0 +1,51 @@
+-- Texts cut into lines and lines into fields, and the numbers in fields. Assumes nothing.
+use Prim.Native.Nat.{ℕ, _<_, _^_}
+use mathlib.Core.Path.{_≡_}
+use mathlib.Core.List.{List, [], _∷_, _++_}
+use mathlib.Core.Bool.{cond}
+use lib.Dec.{eqb}
+use Rattle.std.specs.Results.{Cases}
+use Rattle.std.specs.Written.{decimal}
+use Rattle.std.specs.declared.result.Result.{Result}
+
+abbrev pub Bytes : Type 0
+Bytes = List ℕ
+
+-- one more byte in front of the first part
+abbrev pub grown : ℕ → List Bytes → List Bytes
+grown c [] = (c ∷ []) ∷ []
+grown c (p ∷ ps) = (c ∷ p) ∷ ps
+
+-- the parts between the bytes s, at least one
+abbrev pub parts : ℕ → Bytes → List Bytes
+parts s [] = [] ∷ []
+parts s (c ∷ cs) = cond (eqb c s) ([] ∷ parts s cs) (grown c (parts s cs))
+
+abbrev pub lines : Bytes → List Bytes
+lines = parts 10
+
+abbrev pub fields : Bytes → List Bytes
+fields = parts 9
+
+-- each field behind a tab
+abbrev pub tabbed : List Bytes → Bytes
+tabbed [] = []
+tabbed (f ∷ fs) = 9 ∷ (f ++ tabbed fs)
+
+-- fields parted by tabs
+abbrev pub parted : List Bytes → Bytes
+parted [] = []
+parted (f ∷ fs) = f ++ tabbed fs
+
+-- each line ended by byte 10
+abbrev pub ended : List Bytes → Bytes
+ended [] = []
+ended (l ∷ ls) = l ++ (10 ∷ ended ls)
+
+-- the field writes the number n: in decimal, below 2 ^ 32
+abbrev pub Writes : Bytes → ℕ → Type 0
+Writes f n = (n < 2 ^ 32) × (f ≡ decimal n)
+
+-- the number that a field writes, or an error where it writes none
+abbrev pub Reads-number : {E : Type 0} → Bytes → Result ℕ E → Type 0
+Reads-number f r = Cases r (λ n. Writes f n) (λ _. (n : ℕ) → Writes f n → ⊥)

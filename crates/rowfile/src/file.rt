@@ -1,0 +1,62 @@
+// What a row file holds, and what a faulty text is answered with.
+use exchange::Refusal;
+
+// `Right` means the mirror of the map.
+#[derive(Clone, Copy)]
+pub enum Side {
+    Left,
+    Right,
+}
+
+// A map's name with its parameters.
+#[derive(Clone, Copy)]
+pub enum MapName {
+    Cap,
+    Perm,
+    Aff { m: u32, a: u32, b: u32, c: u32, d: u32 },
+    Phase { m: u32 },
+}
+
+#[derive(Clone, Copy)]
+pub struct Heading {
+    pub side: Side,
+    pub map: MapName,
+}
+
+#[derive(Clone, Copy)]
+pub enum Command {
+    // run the carrier of this code over the row
+    Sweep(u32),
+    // exchange at this place of the log
+    Exchange(u32),
+    // exchange back at this place of the log
+    ExchangeBack(u32),
+    // raise the newest carrier of this kind
+    Raise(u32),
+    // take back the newest sweep
+    TakeBack,
+    // print the row
+    Print,
+}
+
+#[derive(Drop)]
+pub struct RowFile {
+    pub heading: Heading,
+    pub codes: Vec<u32>,
+    pub commands: Vec<Command>,
+}
+
+// Which line is refused, and why. Lines are counted from 1; line 0 is the whole text.
+#[derive(Clone, Copy)]
+pub struct Fault {
+    pub line: u32,
+    pub refusal: Refusal,
+}
+
+// What the reader expects next: the map line, the row line, or a command; past the map line, under which heading.
+#[derive(Clone, Copy)]
+pub enum Stage {
+    Map,
+    Row(Heading),
+    Commands(Heading),
+}
