@@ -5,12 +5,16 @@ use mathlib.Core.Bool.{false}
 use mathlib.Core.List.{List, [], _∷_, _++_, map}
 use mathlib.Core.Logic.{_⊎_}
 use lib.ListN.{length}
+use Rattle.std.specs.Results.{Cases}
+use Rattle.std.specs.Written.{decimal}
+use Rattle.std.specs.declared.result.Result.{Result}
 use Rattle.exchange.specs.declared.refusal.Refusal.{Refusal}
 use Rattle.exchange.specs.declared.refusal.Refusal.the-variants.{TooLong, BadForm, BadNumber, BadParameters, NoElement, RowFull}
 use Rattle.rowfile.specs.Headings.{lawful-parameters, has-code}
 use Rattle.rowfile.specs.Lines.{Bytes, Writes, lines, fields, parted}
-use Rattle.rowfile.specs.Files.{Next, words, numbers, written, swept, Small, Said, stage-of, lines-of, Keeps-lines}
+use Rattle.rowfile.specs.Files.{Next, name-word, parameters, words, numbers, written, swept, Small, Keeps-line, Said, stage-of, lines-of, Keeps-lines}
 
+use Rattle.rowfile.specs.declared.file.MapName.{MapName}
 use Rattle.rowfile.specs.declared.file.Heading.{Heading}
 use Rattle.rowfile.specs.declared.file.Stage.{Stage}
 use Rattle.rowfile.specs.declared.file.Stage.the-variants.{Map, Row, Commands}
@@ -29,6 +33,24 @@ No-number f = (n : ℕ) → Writes f n → ⊥
 abbrev pub No-code : Heading → List ℕ → Type 0
 No-code h ns = Some (λ n. has-code (h .map) n ≡ false) ns
 
+-- n fields that are to be numbers: they are not n, or some is no number
+abbrev pub Misses : ℕ → List Bytes → Refusal → Type 0
+Misses n fs r = ((r ≡ BadForm) × (length fs ≡ n → ⊥)) ⊎ ((r ≡ BadNumber) × (length fs ≡ n) × Some No-number fs)
+
+-- the n numbers that the fields write
+abbrev pub Reads-numbers : ℕ → List Bytes → Result (List ℕ) Refusal → Type 0
+Reads-numbers n fs r = Cases r (λ ns. (fs ≡ map decimal ns) × Small ns × (length ns ≡ n)) (Misses n fs)
+
+-- a name and fields that are no map's, or some of the fields is no number
+abbrev pub Misnamed : Bytes → List Bytes → Refusal → Type 0
+Misnamed w fs r =
+    ((r ≡ BadForm) × ((m : MapName) → w ≡ name-word m → length fs ≡ length (parameters m) → ⊥))
+    ⊎ ((r ≡ BadNumber) × ((m : MapName) × (w ≡ name-word m) × (length fs ≡ length (parameters m)) × Some No-number fs))
+
+-- the map of a name with the parameters that the fields write, its own rule apart
+abbrev pub Named : Bytes → List Bytes → Result MapName Refusal → Type 0
+Named w fs r = Cases r (λ m. (w ≡ name-word m) × (fs ≡ map decimal (parameters m)) × Small (parameters m)) (Misnamed w fs)
+
 -- which rule a line breaks that is right in form and numbers
 abbrev pub Breaks : (s : Stage) → Next s → Refusal → Type 0
 Breaks Map h r = (r ≡ BadParameters) × (lawful-parameters (h .map) ≡ false)
@@ -40,6 +62,10 @@ pub data Ground (s : Stage) (fs : List Bytes) : Refusal → Type 0 where
   no-form : ((x : Next s) (ns : List Bytes) → Form s fs x ns → ⊥) → Ground s fs BadForm
   no-number : (x : Next s) (ns : List Bytes) → Form s fs x ns → Some No-number ns → Ground s fs BadNumber
   no-rule : {r : Refusal} (x : Next s) → fs ≡ written s x → Small (numbers s x) → Breaks s x r → Ground s fs r
+
+-- what a line with the fields fs says, or why it is faulty
+abbrev pub Judged : (s : Stage) → List Bytes → Result (Next s) Refusal → Type 0
+Judged s fs r = Cases r (λ x. (fs ≡ written s x) × Keeps-line s x) (Ground s fs)
 
 -- whether a text may not end here
 abbrev pub Unready : Stage → Type 0

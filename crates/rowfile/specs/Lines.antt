@@ -1,9 +1,10 @@
 -- Texts cut into lines and lines into fields, and the numbers in fields. Assumes nothing.
-use Prim.Native.Nat.{ℕ, _<_, _^_}
+use Prim.Native.Nat.{ℕ, _<_, _≤_, _^_}
 use mathlib.Core.Path.{_≡_}
 use mathlib.Core.List.{List, [], _∷_, _++_}
 use mathlib.Core.Bool.{cond}
 use lib.Dec.{eqb}
+use lib.ListN.{length, getD}
 use Rattle.std.specs.Results.{Cases}
 use Rattle.std.specs.Written.{decimal}
 use Rattle.std.specs.declared.result.Result.{Result}
@@ -21,11 +22,22 @@ abbrev pub parts : ℕ → Bytes → List Bytes
 parts s [] = [] ∷ []
 parts s (c ∷ cs) = cond (eqb c s) ([] ∷ parts s cs) (grown c (parts s cs))
 
+-- the parts behind the first byte, which is an s
+abbrev pub behind : ℕ → Bytes → List Bytes
+behind s [] = []
+behind s (c ∷ cs) = parts s cs
+
 abbrev pub lines : Bytes → List Bytes
 lines = parts 10
 
 abbrev pub fields : Bytes → List Bytes
 fields = parts 9
+
+-- n is the place of the first byte s, or the length where there is none
+pub record First (s : ℕ) (bs : Bytes) (n : ℕ) : Type 0 where
+  pub within : n ≤ length bs
+  pub before : (k : ℕ) → k < n → getD bs k 0 ≡ s → ⊥
+  pub found : n < length bs → getD bs n 0 ≡ s
 
 -- each field behind a tab
 abbrev pub tabbed : List Bytes → Bytes

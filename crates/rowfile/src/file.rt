@@ -1,4 +1,6 @@
 // What a row file holds, and what a faulty text is answered with.
+ghost use Rattle.rowfile.specs.Headings.{has-code, lawful-parameters};
+ghost use mathlib.Core.Path.{_≡_};
 use exchange::Refusal;
 
 // `Right` means the mirror of the map.
@@ -15,6 +17,22 @@ pub enum MapName {
     Perm,
     Aff { m: u32, a: u32, b: u32, c: u32, d: u32 },
     Phase { m: u32 },
+}
+
+impl MapName {
+    // whether the parameters keep the map's rule
+    pub fn parameters_hold(self) -> bool
+        ensures { λ r. ⌜ r ≡ lawful-parameters self ⌝ }
+    {
+        true
+    }
+
+    // whether `n` is the code of an element
+    pub fn is_code(self, n: u32) -> bool
+        ensures { λ r. ⌜ r ≡ has-code self n ⌝ }
+    {
+        true
+    }
 }
 
 #[derive(Clone, Copy)]

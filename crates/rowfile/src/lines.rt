@@ -1,0 +1,134 @@
+// What one line says, or why it is faulty.
+ghost use Rattle.exchange.specs.declared.refusal.Refusal.the-variants.{BadForm as FormRefused, BadNumber as NumberRefused};
+ghost use Rattle.rowfile.specs.Faults.{Judged, Named, Reads-numbers};
+ghost use Rattle.rowfile.specs.Files.{side-word};
+ghost use Rattle.rowfile.specs.Lines.{behind};
+ghost use Rattle.std.specs.Results.{Cases};
+ghost use Rattle.rowfile.specs.declared.file.Stage.the-variants.{Commands, Map};
+ghost use lib.Chars.{codes as bytes};
+ghost use mathlib.Core.List.{[], _∷_};
+ghost use mathlib.Core.Path.{_≡_};
+use crate::fields::count_fields;
+use crate::fields::next_field;
+use crate::file::Command;
+use crate::file::Heading;
+use crate::file::MapName;
+use crate::file::Side;
+use crate::number::BadNumber;
+use crate::number::number;
+use exchange::Refusal;
+
+pub impl From<BadNumber> for Refusal as RefusalFromNumber {
+    ghost converts = { λ _ r. r ≡ NumberRefused };
+
+    fn from(_e: BadNumber) -> Refusal {
+        Refusal::BadNumber
+    }
+}
+
+// The numbers that exactly `N` fields write.
+fn numbers<const N: usize>(fields: &[u8]) -> Result<[u32; N], Refusal>
+    ensures { λ r. ⌜ Reads-numbers N (behind 9 (now (fields .entry))) r ⌝ }
+{
+    if count_fields(fields) != N {
+        return Err(Refusal::BadForm);
+    }
+    let mut values = [0; N];
+    let mut rest = fields;
+    let mut count = 0;
+    while let Some((field, next)) = next_field(rest) {
+        values[count] = number(field)?;
+        rest = next;
+        count += 1;
+    }
+    Ok(values)
+}
+
+fn side(word: &[u8]) -> Result<Side, Refusal>
+    ensures { λ r. ⌜ Cases r (λ s. now (word .entry) ≡ side-word s) (λ e. (e ≡ FormRefused) × ((s : Side) → now (word .entry) ≡ side-word s → ⊥)) ⌝ }
+{
+    match word {
+        b"L" => Ok(Side::Left),
+        b"R" => Ok(Side::Right),
+        _ => Err(Refusal::BadForm),
+    }
+}
+
+// The map of that name, with the parameters that the fields write.
+fn map_name(name: &[u8], fields: &[u8]) -> Result<MapName, Refusal>
+    ensures { λ r. ⌜ Named (now (name .entry)) (behind 9 (now (fields .entry))) r ⌝ }
+{
+    match name {
+        b"cap" => {
+            let [] = numbers::<0>(fields)?;
+            Ok(MapName::Cap)
+        }
+        b"perm" => {
+            let [] = numbers::<0>(fields)?;
+            Ok(MapName::Perm)
+        }
+        b"aff" => {
+            let [m, a, b, c, d] = numbers::<5>(fields)?;
+            Ok(MapName::Aff { m, a, b, c, d })
+        }
+        b"phase" => {
+            let [m] = numbers::<1>(fields)?;
+            Ok(MapName::Phase { m })
+        }
+        _ => Err(Refusal::BadForm),
+    }
+}
+
+// The heading that the fields behind the word `map` say.
+fn heading(fields: &[u8]) -> Result<Heading, Refusal>
+    ensures { λ r. ⌜ Judged Map (bytes "map" ∷ behind 9 (now (fields .entry))) r ⌝ }
+{
+    let Some((word, fields)) = next_field(fields) else {
+        return Err(Refusal::BadForm);
+    };
+    let side = side(word)?;
+    let Some((name, fields)) = next_field(fields) else {
+        return Err(Refusal::BadForm);
+    };
+    let map = map_name(name, fields)?;
+    if !map.parameters_hold() {
+        return Err(Refusal::BadParameters);
+    }
+    Ok(Heading { side, map })
+}
+
+// The command of that letter with the number that the fields behind it write.
+fn command(heading: Heading, letter: char, fields: &[u8]) -> Result<Command, Refusal>
+    ensures { λ r. ⌜ Judged (Commands heading) ((letter ∷ []) ∷ behind 9 (now (fields .entry))) r ⌝ }
+{
+    match letter {
+        'S' => {
+            let [code] = numbers::<1>(fields)?;
+            if !heading.map.is_code(code) {
+                return Err(Refusal::NoElement);
+            }
+            Ok(Command::Sweep(code))
+        }
+        'X' => {
+            let [place] = numbers::<1>(fields)?;
+            Ok(Command::Exchange(place))
+        }
+        'Y' => {
+            let [place] = numbers::<1>(fields)?;
+            Ok(Command::ExchangeBack(place))
+        }
+        'N' => {
+            let [kind] = numbers::<1>(fields)?;
+            Ok(Command::Raise(kind))
+        }
+        'B' => {
+            let [] = numbers::<0>(fields)?;
+            Ok(Command::TakeBack)
+        }
+        'P' => {
+            let [] = numbers::<0>(fields)?;
+            Ok(Command::Print)
+        }
+        _ => Err(Refusal::BadForm),
+    }
+}
