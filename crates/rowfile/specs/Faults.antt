@@ -5,9 +5,12 @@ use mathlib.Core.Bool.{false}
 use mathlib.Core.List.{List, [], _∷_, _++_, map}
 use mathlib.Core.Logic.{_⊎_}
 use lib.ListN.{length}
+use Rattle.std.specs.Of.Vec.{vec-items}
 use Rattle.std.specs.Results.{Cases}
 use Rattle.std.specs.Written.{decimal}
 use Rattle.std.specs.declared.result.Result.{Result}
+use Rattle.std.specs.declared.vec.Vec.{Vec}
+use Rattle.std.specs.declared.alloc.Global.{Global}
 use Rattle.exchange.specs.declared.refusal.Refusal.{Refusal}
 use Rattle.exchange.specs.declared.refusal.Refusal.the-variants.{TooLong, BadForm, BadNumber, BadParameters, NoElement, RowFull}
 use Rattle.rowfile.specs.Headings.{lawful-parameters, has-code}
@@ -16,6 +19,8 @@ use Rattle.rowfile.specs.Files.{Next, name-word, parameters, words, numbers, w
 
 use Rattle.rowfile.specs.declared.file.MapName.{MapName}
 use Rattle.rowfile.specs.declared.file.Heading.{Heading}
+use Rattle.rowfile.specs.declared.lines.LineError.{LineError}
+use Rattle.rowfile.specs.declared.lines.LineError.the-variants.{Refused, Memory}
 use Rattle.rowfile.specs.declared.file.Stage.{Stage}
 use Rattle.rowfile.specs.declared.file.Stage.the-variants.{Map, Row, Commands}
 
@@ -40,6 +45,10 @@ Misses n fs r = ((r ≡ BadForm) × (length fs ≡ n → ⊥)) ⊎ ((r ≡ BadNu
 -- the n numbers that the fields write
 abbrev pub Reads-numbers : ℕ → List Bytes → Result (List ℕ) Refusal → Type 0
 Reads-numbers n fs r = Cases r (λ ns. (fs ≡ map decimal ns) × Small ns × (length ns ≡ n)) (Misses n fs)
+
+-- the fields write n numbers
+abbrev pub Writes-all : List Bytes → ℕ → Type 0
+Writes-all fs n = (ns : List ℕ) × (fs ≡ map decimal ns) × Small ns × (length ns ≡ n)
 
 -- a name and fields that are no map's, or some of the fields is no number
 abbrev pub Misnamed : Bytes → List Bytes → Refusal → Type 0
@@ -66,6 +75,15 @@ pub data Ground (s : Stage) (fs : List Bytes) : Refusal → Type 0 where
 -- what a line with the fields fs says, or why it is faulty
 abbrev pub Judged : (s : Stage) → List Bytes → Result (Next s) Refusal → Type 0
 Judged s fs r = Cases r (λ x. (fs ≡ written s x) × Keeps-line s x) (Ground s fs)
+
+-- why a line is not read
+abbrev pub Unread : Stage → List Bytes → LineError → Type 0
+Unread s fs (Refused r) = Ground s fs r
+Unread s fs Memory = Unit {0}
+
+-- the codes that a row line says, or why it is not read
+abbrev pub Judged-row : Heading → List Bytes → Result (Vec ℕ Global) LineError → Type 0
+Judged-row h fs r = Cases r (λ v. (fs ≡ written (Row h) (vec-items v)) × Keeps-line (Row h) (vec-items v)) (Unread (Row h) fs)
 
 -- whether a text may not end here
 abbrev pub Unready : Stage → Type 0

@@ -1,9 +1,10 @@
 // What one line says, or why it is faulty.
 ghost use Rattle.exchange.specs.declared.refusal.Refusal.the-variants.{BadForm as FormRefused, BadNumber as NumberRefused};
-ghost use Rattle.rowfile.specs.Faults.{Judged, Named, Reads-numbers};
+ghost use Rattle.rowfile.specs.Faults.{Judged, Judged-row, Named, No-number, Reads-numbers, Some, Writes-all};
 ghost use Rattle.rowfile.specs.Files.{side-word};
 ghost use Rattle.rowfile.specs.Lines.{behind};
 ghost use Rattle.std.specs.Results.{Cases};
+ghost use Rattle.rowfile.specs.declared.lines.LineError.the-variants.{Memory, Refused};
 ghost use Rattle.rowfile.specs.declared.file.Stage.the-variants.{Commands, Map};
 ghost use lib.Chars.{codes as bytes};
 ghost use mathlib.Core.List.{[], _∷_};
@@ -17,6 +18,42 @@ use crate::file::Side;
 use crate::number::BadNumber;
 use crate::number::number;
 use exchange::Refusal;
+use std::alloc;
+use std::alloc::Global;
+
+// The most codes that a row has.
+const MAX_CODES: usize = 1024;
+
+// Why a line is not read: it is faulty, or there is no memory for its codes.
+#[derive(Clone, Copy)]
+pub enum LineError {
+    Refused(Refusal),
+    Memory,
+}
+
+pub impl From<Refusal> for LineError as LineErrorFromRefusal {
+    ghost converts = { λ e r. r ≡ Refused e };
+
+    fn from(e: Refusal) -> LineError {
+        LineError::Refused(e)
+    }
+}
+
+pub impl From<BadNumber> for LineError as LineErrorFromNumber {
+    ghost converts = { λ _ r. r ≡ Refused NumberRefused };
+
+    fn from(_e: BadNumber) -> LineError {
+        LineError::Refused(Refusal::BadNumber)
+    }
+}
+
+pub impl<T: Drop> From<alloc::Refused<T>> for LineError as LineErrorFromAlloc {
+    ghost converts = { λ _ r. r ≡ Memory };
+
+    fn from(_e: alloc::Refused<T>) -> LineError {
+        LineError::Memory
+    }
+}
 
 pub impl From<BadNumber> for Refusal as RefusalFromNumber {
     ghost converts = { λ _ r. r ≡ NumberRefused };
@@ -131,4 +168,38 @@ fn command(heading: Heading, letter: char, fields: &[u8]) -> Result<Command, Ref
         }
         _ => Err(Refusal::BadForm),
     }
+}
+
+// How many numbers the fields write.
+fn count_numbers(fields: &[u8]) -> Result<usize, BadNumber>
+    ensures { λ r. ⌜ Cases r (λ n. Writes-all (behind 9 (now (fields .entry))) n) (λ _. Some No-number (behind 9 (now (fields .entry)))) ⌝ }
+{
+    let mut rest = fields;
+    let mut count = 0;
+    while let Some((field, next)) = next_field(rest) {
+        number(field)?;
+        rest = next;
+        count += 1;
+    }
+    Ok(count)
+}
+
+// The codes that the fields behind the word `row` write.
+fn row_codes(heap: Global, heading: Heading, fields: &[u8]) -> Result<Vec<u32>, LineError>
+    ensures { λ r. ⌜ Judged-row heading (bytes "row" ∷ behind 9 (now (fields .entry))) r ⌝ }
+{
+    if count_numbers(fields)? > MAX_CODES {
+        return Err(LineError::Refused(Refusal::RowFull));
+    }
+    let mut codes = Vec::new(heap);
+    let mut rest = fields;
+    while let Some((field, next)) = next_field(rest) {
+        let code = number(field)?;
+        if !heading.map.is_code(code) {
+            return Err(LineError::Refused(Refusal::NoElement));
+        }
+        codes.push(code)?;
+        rest = next;
+    }
+    Ok(codes)
 }
