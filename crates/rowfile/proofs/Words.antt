@@ -7,20 +7,21 @@ use mathlib.Core.Logic.{_⊎_, inl, inr, ⊎-elim}
 use native.Mathlib.Omega.{arith}
 use lib.Chars.{codes as bytes}
 use lib.Dec.{eqb}
-use lib.ListN.{length, getD}
+use lib.ListN.{length, getD, replicate, length-replicate}
 use Rattle.std.specs.Written.{decimal}
 use Rattle.std.proofs.shelf.Lists.{nil-from-length}
 use Rattle.exchange.specs.declared.refusal.Refusal.{Refusal}
-use Rattle.exchange.specs.declared.refusal.Refusal.the-variants.{BadForm}
+use Rattle.exchange.specs.declared.refusal.Refusal.the-variants.{BadForm, BadNumber}
 use Rattle.rowfile.specs.Lines.{Bytes}
 use Rattle.rowfile.specs.Files.{Small, side-word, name-word, parameters, letter, argument}
-use Rattle.rowfile.specs.Faults.{Misses, Misnamed, Ground}
+use Rattle.rowfile.specs.Faults.{Some, No-number, Misses, Misnamed, Ground}
 use Rattle.rowfile.specs.Faults.Ground.{no-form, no-number, no-rule}
 use Rattle.rowfile.specs.declared.file.Side.{Side}
 use Rattle.rowfile.specs.declared.file.MapName.{MapName}
 use Rattle.rowfile.specs.declared.file.MapName.the-variants.{Cap, Perm, Aff, Phase}
 use Rattle.rowfile.specs.declared.file.Heading.{Heading}
-use Rattle.rowfile.specs.declared.file.Stage.the-variants.{Map, Commands}
+use Rattle.rowfile.specs.declared.file.Stage.{Stage}
+use Rattle.rowfile.specs.declared.file.Stage.the-variants.{Map, Row, Commands}
 use Rattle.rowfile.specs.declared.file.Command.{Command}
 use Rattle.rowfile.specs.declared.file.Command.the-variants.{Sweep, Exchange, ExchangeBack, Raise, TakeBack, Print}
 
@@ -87,6 +88,23 @@ heading-misnamed s w n fs e q m =
     (λ f. subst (Ground Map (bytes "map" ∷ w ∷ n ∷ fs)) (sym (f .0)) (no-form (λ h ns p. let v : fs ≡ ns = cc in f .1 (h .map) (cc) (ap length v ∙ p .1))))
     (λ k. subst (Ground Map (bytes "map" ∷ w ∷ n ∷ fs)) (sym (k .0)) (no-number (record { side = s; map = k .1 .0 }) fs (cc (q, k .1 .1), k .1 .2) (k .1 .3)))
     m
+
+pub row-misnumbered : (h : Heading) (fs : List Bytes) → Some No-number fs → Ground (Row h) (bytes "row" ∷ fs) BadNumber
+row-misnumbered h fs some = no-number (replicate (length fs) 0) fs (refl, sym (length-replicate (length fs) 0)) some
+
+letter-length : (c : Command) → length (letter c) ≡ 1
+letter-length (Sweep n) = refl
+letter-length (Exchange n) = refl
+letter-length (ExchangeBack n) = refl
+letter-length (Raise n) = refl
+letter-length TakeBack = refl
+letter-length Print = refl
+
+-- a first field that no line has at this stage
+pub unfit : (s : Stage) (f : Bytes) (fs : List Bytes) → (s ≡ Map → f ≡ bytes "map" → ⊥) → ((h : Heading) → s ≡ Row h → f ≡ bytes "row" → ⊥) → ((h : Heading) → s ≡ Commands h → length f ≡ 1 → ⊥) → Ground s (f ∷ fs) BadForm
+unfit Map f fs m r c = no-form (λ h ns p. m refl (cc))
+unfit (Row h) f fs m r c = no-form (λ xs ns p. r h refl (cc))
+unfit (Commands h) f fs m r c = no-form (λ d ns p. let q : f ≡ letter d = cc in c h refl (ap length q ∙ letter-length d))
 
 -- lists of one and of five, by their places
 pub one : (ns : List ℕ) → length ns ≡ 1 → ns ≡ getD ns 0 0 ∷ []

@@ -4,6 +4,8 @@ use mathlib.Core.Path.{_≡_}
 use mathlib.Core.Bool.{false}
 use mathlib.Core.List.{List, [], _∷_, _++_, map}
 use mathlib.Core.Logic.{_⊎_}
+use denote.Ref.{now}
+use lib.Chars.{codes as bytes}
 use lib.ListN.{length}
 use Rattle.std.specs.Of.Vec.{vec-items}
 use Rattle.std.specs.Results.{Cases}
@@ -14,11 +16,13 @@ use Rattle.std.specs.declared.alloc.Global.{Global}
 use Rattle.exchange.specs.declared.refusal.Refusal.{Refusal}
 use Rattle.exchange.specs.declared.refusal.Refusal.the-variants.{TooLong, BadForm, BadNumber, BadParameters, NoElement, RowFull}
 use Rattle.rowfile.specs.Headings.{lawful-parameters, has-code}
-use Rattle.rowfile.specs.Lines.{Bytes, Writes, lines, fields, parted}
+use Rattle.rowfile.specs.Lines.{Bytes, Writes, behind, lines, fields, parted}
 use Rattle.rowfile.specs.Files.{Next, name-word, parameters, words, numbers, written, swept, Small, Keeps-line, Said, stage-of, lines-of, Keeps-lines}
 
 use Rattle.rowfile.specs.declared.file.MapName.{MapName}
 use Rattle.rowfile.specs.declared.file.Heading.{Heading}
+use Rattle.rowfile.specs.declared.lines.Record.{Record}
+use Rattle.rowfile.specs.declared.lines.Record.the-variants.{Map as Record·Map, Row as Record·Row, Command as Record·Command}
 use Rattle.rowfile.specs.declared.lines.LineError.{LineError}
 use Rattle.rowfile.specs.declared.lines.LineError.the-variants.{Refused, Memory}
 use Rattle.rowfile.specs.declared.file.Stage.{Stage}
@@ -75,6 +79,16 @@ pub data Ground (s : Stage) (fs : List Bytes) : Refusal → Type 0 where
 -- what a line with the fields fs says, or why it is faulty
 abbrev pub Judged : (s : Stage) → List Bytes → Result (Next s) Refusal → Type 0
 Judged s fs r = Cases r (λ x. (fs ≡ written s x) × Keeps-line s x) (Ground s fs)
+
+-- the record holds the stage and the fields of the line, and its place
+abbrev pub Is-record : Stage → Bytes → ℕ → ℕ → Record → Type 0
+Is-record s b n o (Record·Map fs line offset) = (s ≡ Map) × (fields b ≡ bytes "map" ∷ behind 9 (now fs)) × (line ≡ n) × (offset ≡ o)
+Is-record s b n o (Record·Row h fs line offset) = (s ≡ Row h) × (fields b ≡ bytes "row" ∷ behind 9 (now fs)) × (line ≡ n) × (offset ≡ o)
+Is-record s b n o (Record·Command h letter fs line offset) = (s ≡ Commands h) × (fields b ≡ (letter ∷ []) ∷ behind 9 (now fs)) × (line ≡ n) × (offset ≡ o)
+
+-- the record that the line b is, or why it is none
+abbrev pub Recorded : Stage → Bytes → ℕ → ℕ → Result Record Refusal → Type 0
+Recorded s b n o r = Cases r (Is-record s b n o) (Ground s (fields b))
 
 -- why a line is not read
 abbrev pub Unread : Stage → List Bytes → LineError → Type 0

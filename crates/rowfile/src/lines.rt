@@ -1,6 +1,6 @@
 // What one line says, or why it is faulty.
 ghost use Rattle.exchange.specs.declared.refusal.Refusal.the-variants.{BadForm as FormRefused, BadNumber as NumberRefused};
-ghost use Rattle.rowfile.specs.Faults.{Judged, Judged-row, Named, No-number, Reads-numbers, Some, Writes-all};
+ghost use Rattle.rowfile.specs.Faults.{Judged, Judged-row, Named, No-number, Reads-numbers, Recorded, Some, Writes-all};
 ghost use Rattle.rowfile.specs.Files.{side-word};
 ghost use Rattle.rowfile.specs.Lines.{behind};
 ghost use Rattle.std.specs.Results.{Cases};
@@ -11,10 +11,12 @@ ghost use mathlib.Core.List.{[], _∷_};
 ghost use mathlib.Core.Path.{_≡_};
 use crate::fields::count_fields;
 use crate::fields::next_field;
+use crate::fields::until;
 use crate::file::Command;
 use crate::file::Heading;
 use crate::file::MapName;
 use crate::file::Side;
+use crate::file::Stage;
 use crate::number::BadNumber;
 use crate::number::number;
 use exchange::Refusal;
@@ -60,6 +62,28 @@ pub impl From<BadNumber> for Refusal as RefusalFromNumber {
 
     fn from(_e: BadNumber) -> Refusal {
         Refusal::BadNumber
+    }
+}
+
+// One line: which of the three it is, its fields behind the first, its number and the offset of its first byte.
+// A row and a command are read under the heading of the text.
+#[derive(Clone, Copy)]
+pub enum Record<'a> {
+    Map { fields: &'a [u8], line: u32, offset: usize },
+    Row { heading: Heading, fields: &'a [u8], line: u32, offset: usize },
+    Command { heading: Heading, letter: char, fields: &'a [u8], line: u32, offset: usize },
+}
+
+// The record that `bytes`, a line without its byte 10, is at this stage.
+pub fn recognize(stage: Stage, bytes: &[u8], line: u32, offset: usize) -> Result<Record<'_>, Refusal>
+    ensures { λ r. ⌜ Recorded stage (now (bytes .entry)) line offset r ⌝ }
+{
+    let (first, fields) = bytes.split_at(until(bytes, b'\t'));
+    match (stage, first) {
+        (Stage::Map, b"map") => Ok(Record::Map { fields, line, offset }),
+        (Stage::Row(heading), b"row") => Ok(Record::Row { heading, fields, line, offset }),
+        (Stage::Commands(heading), [letter]) => Ok(Record::Command { heading, letter: char::from(*letter), fields, line, offset }),
+        _ => Err(Refusal::BadForm),
     }
 }
 

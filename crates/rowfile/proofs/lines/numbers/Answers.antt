@@ -10,7 +10,7 @@ use Rattle.std.proofs.shelf.Results.{err-from-errBy}
 use Rattle.rowfile.specs.Lines.{behind}
 use Rattle.rowfile.specs.Files.{Small}
 use Rattle.rowfile.specs.Faults.{Some, No-number}
-use Rattle.rowfile.proofs.Somes.{some-later, one-more}
+use Rattle.rowfile.proofs.Somes.{some-at, one-more}
 use Rattle.rowfile.proofs.lines.numbers.Needs as need
 
 pub loop-field-holds : need.loop-field-holds
@@ -20,7 +20,7 @@ pub returns-in-Break-values : need.returns-in-Break-values
 returns-in-Break-values g c = let p = err-from-errBy (c .from-residual .result) (c .from-residual .ensures .1) in
     let fs = behind 9 (c .args .fields .now) in
     let e = c .loop-field .inv .2 ∙ ap (λ k. map decimal (take (c .loop-field .count) (c .loop-field .values)) ++ k) (c .in-Some .ensures tt .0) in
-    let some = subst (λ k. Some No-number k) (sym e) (some-later No-number (map decimal (take (c .loop-field .count) (c .loop-field .values))) _ (inl (c .in-Break-values .ensures tt))) in
+    let some = some-at No-number fs (map decimal (take (c .loop-field .count) (c .loop-field .values))) _ _ e (c .in-Break-values .ensures tt) in
     rw (p .1, p .2) (inr (refl, omega arith, some))
 
 pub loop-field-again : need.loop-field-again
