@@ -2,3 +2,4 @@ pub mod Lines
 pub mod Headings
 pub mod Files
 pub mod Faults
+pub mod Reading

@@ -71,6 +71,13 @@ pub struct Fault {
     pub refusal: Refusal,
 }
 
+// Why a text is not read: it is faulty, or there is no memory for the file.
+#[derive(Clone, Copy)]
+pub enum ReadError {
+    Fault(Fault),
+    Memory,
+}
+
 // What the reader expects next: the map line, the row line, or a command; past the map line, under which heading.
 #[derive(Clone, Copy)]
 pub enum Stage {

@@ -141,7 +141,7 @@ fn map_name(name: &[u8], fields: &[u8]) -> Result<MapName, Refusal>
 }
 
 // The heading that the fields behind the word `map` say.
-fn heading(fields: &[u8]) -> Result<Heading, Refusal>
+pub fn heading(fields: &[u8]) -> Result<Heading, Refusal>
     ensures { λ r. ⌜ Judged Map (bytes "map" ∷ behind 9 (now (fields .entry))) r ⌝ }
 {
     let Some((word, fields)) = next_field(fields) else {
@@ -159,7 +159,7 @@ fn heading(fields: &[u8]) -> Result<Heading, Refusal>
 }
 
 // The command of that letter with the number that the fields behind it write.
-fn command(heading: Heading, letter: char, fields: &[u8]) -> Result<Command, Refusal>
+pub fn command(heading: Heading, letter: char, fields: &[u8]) -> Result<Command, Refusal>
     ensures { λ r. ⌜ Judged (Commands heading) ((letter ∷ []) ∷ behind 9 (now (fields .entry))) r ⌝ }
 {
     match letter {
@@ -209,7 +209,7 @@ fn count_numbers(fields: &[u8]) -> Result<usize, BadNumber>
 }
 
 // The codes that the fields behind the word `row` write.
-fn row_codes(heap: Global, heading: Heading, fields: &[u8]) -> Result<Vec<u32>, LineError>
+pub fn row_codes(heap: Global, heading: Heading, fields: &[u8]) -> Result<Vec<u32>, LineError>
     ensures { λ r. ⌜ Judged-row heading (bytes "row" ∷ behind 9 (now (fields .entry))) r ⌝ }
 {
     if count_numbers(fields)? > MAX_CODES {
