@@ -2,3 +2,4 @@ pub mod Numbers
 pub mod Parts
 pub mod Somes
 pub mod Words
+pub mod Texts

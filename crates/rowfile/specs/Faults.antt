@@ -16,7 +16,7 @@ use Rattle.std.specs.declared.alloc.Global.{Global}
 use Rattle.exchange.specs.declared.refusal.Refusal.{Refusal}
 use Rattle.exchange.specs.declared.refusal.Refusal.the-variants.{TooLong, BadForm, BadNumber, BadParameters, NoElement, RowFull}
 use Rattle.rowfile.specs.Headings.{lawful-parameters, has-code}
-use Rattle.rowfile.specs.Lines.{Bytes, Writes, behind, lines, fields, parted}
+use Rattle.rowfile.specs.Lines.{Bytes, Writes, behind, lines, fields, line-of}
 use Rattle.rowfile.specs.Files.{Next, name-word, parameters, words, numbers, written, swept, Small, Keeps-line, Said, stage-of, lines-of, Keeps-lines}
 
 use Rattle.rowfile.specs.declared.file.MapName.{MapName}
@@ -114,4 +114,4 @@ pub data Bad (s : Stage) : List Bytes → Refusal → Type 0 where
 -- the first fault of a text: it is too long, or the line that follows s, all of which keeps the rules, is faulty
 pub data Faulty (t : Bytes) : ℕ → Refusal → Type 0 where
   too-long : 32768 < length t → Faulty t 0 TooLong
-  at-line : {n : ℕ} {r : Refusal} (s : Said) (ls : List Bytes) → length t ≤ 32768 → lines t ≡ map parted (lines-of s) ++ ls → Keeps-lines s → n ≡ suc (length (lines-of s)) → Bad (stage-of s) ls r → Faulty t n r
+  at-line : {n : ℕ} {r : Refusal} (s : Said) (ls : List Bytes) → length t ≤ 32768 → lines t ≡ map line-of (lines-of s) ++ ls → Keeps-lines s → n ≡ suc (length (lines-of s)) → Bad (stage-of s) ls r → Faulty t n r

@@ -7,7 +7,7 @@ use lib.ListN.{length}
 use Rattle.std.specs.Written.{decimal}
 use Rattle.std.specs.shelf.Lists.{All}
 use Rattle.rowfile.specs.Headings.{lawful-parameters, has-code}
-use Rattle.rowfile.specs.Lines.{Bytes, parted, ended}
+use Rattle.rowfile.specs.Lines.{Bytes, line-of, ended}
 use Rattle.rowfile.specs.declared.file.Side.{Side}
 use Rattle.rowfile.specs.declared.file.Side.the-variants.{Left, Right}
 use Rattle.rowfile.specs.declared.file.MapName.{MapName}
@@ -127,7 +127,7 @@ Keeps-lines (rowed f) = Keeps-line Map (f .heading) × Keeps-line (Row (f .headi
 
 -- the text of a file
 abbrev pub text-of : File → Bytes
-text-of f = ended (map parted (lines-of (rowed f)))
+text-of f = ended (map line-of (lines-of (rowed f)))
 
 -- the rules of the format
 abbrev pub Keeps : File → Type 0

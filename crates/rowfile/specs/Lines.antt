@@ -39,15 +39,19 @@ pub record First (s : ℕ) (bs : Bytes) (n : ℕ) : Type 0 where
   pub before : (k : ℕ) → k < n → getD bs k 0 ≡ s → ⊥
   pub found : n < length bs → getD bs n 0 ≡ s
 
--- each field behind a tab
-abbrev pub tabbed : List Bytes → Bytes
-tabbed [] = []
-tabbed (f ∷ fs) = 9 ∷ (f ++ tabbed fs)
+-- each part behind a byte s
+abbrev pub led : ℕ → List Bytes → Bytes
+led s [] = []
+led s (p ∷ ps) = s ∷ (p ++ led s ps)
 
--- fields parted by tabs
-abbrev pub parted : List Bytes → Bytes
-parted [] = []
-parted (f ∷ fs) = f ++ tabbed fs
+-- parts with a byte s between them
+abbrev pub parted : ℕ → List Bytes → Bytes
+parted s [] = []
+parted s (p ∷ ps) = p ++ led s ps
+
+-- a line of these fields
+abbrev pub line-of : List Bytes → Bytes
+line-of = parted 9
 
 -- each line ended by byte 10
 abbrev pub ended : List Bytes → Bytes
