@@ -3,3 +3,4 @@ pub mod Headings
 pub mod Files
 pub mod Faults
 pub mod Reading
+pub mod Writing

@@ -5,6 +5,7 @@ pub mod file;
 mod lines;
 mod number;
 pub mod reader;
+pub mod writer;
 
 pub use file::Command;
 pub use file::Fault;

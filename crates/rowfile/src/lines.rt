@@ -24,7 +24,7 @@ use std::alloc;
 use std::alloc::Global;
 
 // The most codes that a row has.
-const MAX_CODES: usize = 1024;
+pub const MAX_CODES: usize = 1024;
 
 // Why a line is not read: it is faulty, or there is no memory for its codes.
 #[derive(Clone, Copy)]

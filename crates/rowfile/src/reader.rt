@@ -22,7 +22,7 @@ use exchange::Refusal;
 use std::alloc::Global;
 
 // The most bytes that a text has.
-const MAX_BYTES: usize = 32768;
+pub const MAX_BYTES: usize = 32768;
 
 // An error of a line, with the number of that line.
 #[derive(Clone, Copy)]

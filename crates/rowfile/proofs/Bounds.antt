@@ -1,0 +1,45 @@
+-- How long numbers and lines are. Assumes nothing.
+use Prim.Native.Nat.{ℕ, _+_, _*_, _^_, _≤_, _<_}
+use mathlib.Core.Path.{_≡_, refl, ap}
+use mathlib.Core.List.{List, [], _∷_, _++_, map}
+use native.Mathlib.Omega.{arith}
+use lib.ListN.{length, length-append}
+use Rattle.std.specs.Written.{decimal}
+use Rattle.std.specs.shelf.Lists.{All}
+use Rattle.std.proofs.shelf.Decimals.{length-decimal-le}
+use Rattle.rowfile.specs.Lines.{led, line-of, ended}
+use Rattle.rowfile.specs.Files.{Small, argument, written, Keeps-line}
+use Rattle.rowfile.specs.Writing.{command-line, commands-text}
+use Rattle.rowfile.specs.declared.file.Heading.{Heading}
+use Rattle.rowfile.specs.declared.file.Stage.the-variants.{Commands}
+use Rattle.rowfile.specs.declared.file.Command.{Command}
+use Rattle.rowfile.specs.declared.file.Command.the-variants.{Sweep, Exchange, ExchangeBack, Raise, TakeBack, Print}
+
+pub number-short : (n : ℕ) → n < 2 ^ 32 → length (decimal n) ≤ 10
+number-short n h = length-decimal-le 10 n (omega arith) (omega arith) (omega arith)
+
+pub numbers-short : (ns : List ℕ) → Small ns → length (led 9 (map decimal ns)) ≤ 11 * length ns
+numbers-short [] s = omega arith
+numbers-short (n ∷ ns) s = omega (arith, number-short n (s .0), numbers-short ns (s .1), length-append (decimal n) (led 9 (map decimal ns)))
+
+command-short : (c : Command) → Small (argument c) → length (command-line c) ≤ 12
+command-short (Sweep n) s = omega (arith, numbers-short (n ∷ []) s)
+command-short (Exchange n) s = omega (arith, numbers-short (n ∷ []) s)
+command-short (ExchangeBack n) s = omega (arith, numbers-short (n ∷ []) s)
+command-short (Raise n) s = omega (arith, numbers-short (n ∷ []) s)
+command-short TakeBack s = omega arith
+command-short Print s = omega arith
+
+-- the lines of commands as the text has them
+pub commands-are : (h : Heading) (cs : List Command) → ended (map line-of (map (written (Commands h)) cs)) ≡ commands-text cs
+commands-are h [] = refl
+commands-are h (c ∷ cs) = ap (λ k. command-line c ++ (10 ∷ k)) (commands-are h cs)
+
+-- a command's line has at least one byte besides, and at most 12
+pub commands-bounds : (h : Heading) (cs : List Command) → All (Keeps-line (Commands h)) cs → (length cs ≤ length (commands-text cs)) × (length (commands-text cs) ≤ 13 * length cs)
+commands-bounds h [] k = (omega arith, omega arith)
+commands-bounds h (c ∷ cs) k =
+    let p = commands-bounds h cs (k .1) in
+    let q = command-short c (k .0 .0) in
+    let l = length-append (command-line c) (10 ∷ commands-text cs) in
+    (omega arith, omega arith)
