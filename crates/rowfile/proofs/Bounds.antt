@@ -3,15 +3,16 @@ use Prim.Native.Nat.{ℕ, _+_, _*_, _^_, _≤_, _<_}
 use mathlib.Core.Path.{_≡_, refl, ap}
 use mathlib.Core.List.{List, [], _∷_, _++_, map}
 use native.Mathlib.Omega.{arith}
+use lib.Chars.{codes as bytes}
 use lib.ListN.{length, length-append}
 use Rattle.std.specs.Written.{decimal}
 use Rattle.std.specs.shelf.Lists.{All}
 use Rattle.std.proofs.shelf.Decimals.{length-decimal-le}
 use Rattle.rowfile.specs.Lines.{led, line-of, ended}
-use Rattle.rowfile.specs.Files.{Small, argument, written, Keeps-line}
-use Rattle.rowfile.specs.Writing.{command-line, commands-text}
+use Rattle.rowfile.specs.Files.{Small, argument, written, text-of, Keeps-line}
+use Rattle.rowfile.specs.Writing.{filed, command-line, commands-text}
 use Rattle.rowfile.specs.declared.file.Heading.{Heading}
-use Rattle.rowfile.specs.declared.file.Stage.the-variants.{Commands}
+use Rattle.rowfile.specs.declared.file.Stage.the-variants.{Map, Commands}
 use Rattle.rowfile.specs.declared.file.Command.{Command}
 use Rattle.rowfile.specs.declared.file.Command.the-variants.{Sweep, Exchange, ExchangeBack, Raise, TakeBack, Print}
 
@@ -43,3 +44,14 @@ commands-bounds h (c ∷ cs) k =
     let q = command-short c (k .0 .0) in
     let l = length-append (command-line c) (10 ∷ commands-text cs) in
     (omega arith, omega arith)
+
+-- the text in the parts that are laid
+pub text-is : (h : Heading) (ns : List ℕ) (cs : List Command) → text-of (filed h ns cs) ≡ line-of (written Map h) ++ (bytes "\nrow" ++ (led 9 (map decimal ns) ++ (10 ∷ commands-text cs)))
+text-is h ns cs = ap (λ k. line-of (written Map h) ++ (10 ∷ 114 ∷ 111 ∷ 119 ∷ (led 9 (map decimal ns) ++ (10 ∷ k)))) (commands-are h cs)
+
+pub text-length : (h : Heading) (ns : List ℕ) (cs : List Command) → length (text-of (filed h ns cs)) ≡ length (line-of (written Map h)) + (5 + (length (led 9 (map decimal ns)) + length (commands-text cs)))
+text-length h ns cs =
+    let H = line-of (written Map h) in
+    let N = led 9 (map decimal ns) in
+    let C = commands-text cs in
+    omega (arith, ap length (text-is h ns cs), length-append H (bytes "\nrow" ++ (N ++ (10 ∷ C))), length-append N (10 ∷ C))

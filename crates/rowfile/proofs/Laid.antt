@@ -53,3 +53,14 @@ lays-digit out at n after r l h = subst (λ bs. Lays out at bs after r) (ap (λ 
 
 pub lays-digits : (out : Bytes) (at n : ℕ) (mid after : Bytes) (r s : ℕ) → 10 ≤ n → n < 2 ^ 64 → Lays out at (decimal (n / 10)) mid r → Lays mid r ((48 + n % 10) ∷ []) after s → Lays out at (decimal n) after s
 lays-digits out at n mid after r s l h f g = subst (λ bs. Lays out at bs after s) (sym (decimal-step n l h)) (lays-then out at (decimal (n / 10)) ((48 + n % 10) ∷ []) mid after r s f g)
+
+-- five parts, one behind another
+pub lays-five :
+    (out : Bytes) (at : ℕ) (a b c d e o1 o2 o3 o4 o5 : Bytes) (r1 r2 r3 r4 r5 : ℕ)
+    → Lays out at a o1 r1 → Lays o1 r1 b o2 r2 → Lays o2 r2 c o3 r3 → Lays o3 r3 d o4 r4 → Lays o4 r4 e o5 r5
+    → Lays out at (a ++ (b ++ (c ++ (d ++ e)))) o5 r5
+lays-five out at a b c d e o1 o2 o3 o4 o5 r1 r2 r3 r4 r5 f g h i j =
+    lays-then out at a (b ++ (c ++ (d ++ e))) o1 o5 r1 r5 f
+    (lays-then o1 r1 b (c ++ (d ++ e)) o2 o5 r2 r5 g
+    (lays-then o2 r2 c (d ++ e) o3 o5 r3 r5 h
+    (lays-then o3 r3 d e o4 o5 r4 r5 i j)))
