@@ -9,8 +9,12 @@ use Rattle.std.specs.Written.{decimal}
 use Rattle.std.specs.shelf.Lists.{All}
 use Rattle.std.proofs.shelf.Decimals.{length-decimal-le}
 use Rattle.rowfile.specs.Lines.{led, line-of, ended}
-use Rattle.rowfile.specs.Files.{Small, argument, written, text-of, Keeps-line}
+use Rattle.rowfile.specs.Files.{Small, argument, side-word, name-word, parameters, written, text-of, rowed, Keeps-line, Keeps-lines}
 use Rattle.rowfile.specs.Writing.{filed, command-line, commands-text}
+use Rattle.rowfile.specs.declared.file.Side.{Side}
+use Rattle.rowfile.specs.declared.file.Side.the-variants.{Left, Right}
+use Rattle.rowfile.specs.declared.file.MapName.{MapName}
+use Rattle.rowfile.specs.declared.file.MapName.the-variants.{Cap, Perm, Aff, Phase}
 use Rattle.rowfile.specs.declared.file.Heading.{Heading}
 use Rattle.rowfile.specs.declared.file.Stage.the-variants.{Map, Commands}
 use Rattle.rowfile.specs.declared.file.Command.{Command}
@@ -55,3 +59,26 @@ text-length h ns cs =
     let N = led 9 (map decimal ns) in
     let C = commands-text cs in
     omega (arith, ap length (text-is h ns cs), length-append H (bytes "\nrow" ++ (N ++ (10 ∷ C))), length-append N (10 ∷ C))
+
+side-one : (s : Side) → length (side-word s) ≡ 1
+side-one Left = refl
+side-one Right = refl
+
+map-short : (m : MapName) → (length (name-word m) ≤ 5) × (length (parameters m) ≤ 5)
+map-short Cap = (omega arith, omega arith)
+map-short Perm = (omega arith, omega arith)
+map-short (Aff m a b c d) = (omega arith, omega arith)
+map-short (Phase m) = (omega arith, omega arith)
+
+heading-short : (h : Heading) → Small (parameters (h .map)) → length (line-of (written Map h)) ≤ 70
+heading-short h s =
+    let w = name-word (h .map) in
+    let P = led 9 (map decimal (parameters (h .map))) in
+    omega (arith, side-one (h .side), map-short (h .map), numbers-short (parameters (h .map)) s, length-append (side-word (h .side)) (9 ∷ (w ++ P)), length-append w P)
+
+-- a text is longer than its commands are many, and a bounded number of commands makes a bounded text
+pub text-bounds : (h : Heading) (ns : List ℕ) (cs : List Command) → Keeps-lines (rowed (filed h ns cs)) → (length cs ≤ length (text-of (filed h ns cs))) × (length cs ≤ 32768 → length (text-of (filed h ns cs)) < 2 ^ 63)
+text-bounds h ns cs k =
+    let c = commands-bounds h cs (k .2) in
+    let l = text-length h ns cs in
+    (omega arith, λ f. omega (arith, heading-short h (k .0 .0), numbers-short ns (k .1 .0), k .1 .1 .0))

@@ -9,7 +9,9 @@ use Rattle.std.specs.Written.{decimal}
 use Rattle.std.proofs.shelf.Decimals.{decimal-digit, decimal-step}
 use Rattle.std.proofs.shelf.Lists.{take-more-set, take-append-drop, drop-set-lt}
 use Rattle.rowfile.specs.Lines.{Bytes}
-use Rattle.rowfile.specs.Writing.{laid, Lays}
+use Rattle.rowfile.specs.Writing.{laid, Lays, Writes-file}
+use Rattle.rowfile.specs.Files.{File, rowed, text-of, Keeps-lines}
+use Rattle.std.specs.declared.result.Result.the-variants.{Ok}
 
 laid-append : (out : Bytes) (at : ℕ) (xs ys : Bytes) → laid out at (xs ++ ys) ≡ laid (laid out at xs) (at + length xs) ys
 laid-append out at [] ys = ap (λ n. laid out n ys) (omega arith)
@@ -64,3 +66,9 @@ lays-five out at a b c d e o1 o2 o3 o4 o5 r1 r2 r3 r4 r5 f g h i j =
     (lays-then o1 r1 b (c ++ (d ++ e)) o2 o5 r2 r5 g
     (lays-then o2 r2 c (d ++ e) o3 o5 r3 r5 h
     (lays-then o3 r3 d e o4 o5 r4 r5 i j)))
+
+-- a file that keeps the rules, laid where its text fits
+pub laid-file : (f : File) (out none after : Bytes) (n m : ℕ) (before : Bytes) → Keeps-lines (rowed f) → Lays none 0 (text-of f) before n → n ≤ 32768 → n ≤ length out → Lays out 0 (text-of f) after m → Writes-file f out (Ok n) after
+laid-file f out none after n m before k l short fits g =
+    let e : n ≡ length (text-of f) = omega (arith, l .1) in
+    ((k, omega arith), e, fits, g .0 ∙ (laid-whole out (text-of f) (omega arith) ∙ ap (λ i. text-of f ++ drop i out) (sym e)))

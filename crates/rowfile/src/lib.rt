@@ -15,3 +15,4 @@ pub use file::ReadError;
 pub use file::RowFile;
 pub use file::Side;
 pub use reader::read;
+pub use writer::write;
