@@ -34,11 +34,11 @@ module _ {E : Type 0} {m : Meaning E} (l : Lawful m) where
       let F = first (m .cross) in
       let G = last (m .cross) in
       let v = g (f (g t)) in
-      let h1 = last-belong (l .uncrosses) t h in
-      let h2 = first-belong (l .uncrosses) (g t) h1 in
-      let h3 = last-belong (l .uncrosses) (f (g t)) h2 in
-      let k1 = first-belong (l .crosses) v h3 in
-      let k2 = last-belong (l .crosses) (F v) k1 in
+      let h1 = last-belong e (m .uncross) (l .uncrosses .belong) t h in
+      let h2 = first-belong e (m .uncross) (l .uncrosses .belong) (g t) h1 in
+      let h3 = last-belong e (m .uncross) (l .uncrosses .belong) (f (g t)) h2 in
+      let k1 = first-belong e (m .cross) (l .crosses .belong) v h3 in
+      let k2 = last-belong e (m .cross) (l .crosses .belong) (F v) k1 in
       let e1 = last-undone e (m .uncross) (m .cross) (l .cross-undoes) (f (g t)) h2 in
       let e2 = first-undone e (m .uncross) (m .cross) (l .cross-undoes) (g t) h1 in
       let e3 = last-undone e (m .uncross) (m .cross) (l .cross-undoes) t h in

@@ -1,2 +1,4 @@
+pub mod Tests
 pub mod Triples
 pub mod Layers
+pub mod Completion

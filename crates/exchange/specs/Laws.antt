@@ -26,9 +26,13 @@ pub record Numbered {E : Type 0} (e : Elements E) : Type 0 where
   pub stranger-kind : (x : E) → e .belongs x ≡ false → e .kind x ≡ 0
   pub stranger-code : (x : E) → e .belongs x ≡ false → e .code x ≡ no-code
 
+-- two elements become two elements
+abbrev pub Keeps : {E : Type 0} → Elements E → Exchange E → Type 0
+Keeps {E = E} e f = (x y : E) → Pair e x y → Pair e (f x y .0) (f x y .1)
+
 -- elements stay elements, the kinds change sides, and a pair with a value that does not belong stays as it is
 pub record Exchanges {E : Type 0} (e : Elements E) (f : Exchange E) : Type 0 where
-  pub belong : (x y : E) → Pair e x y → Pair e (f x y .0) (f x y .1)
+  pub belong : Keeps e f
   pub left-kind : (x y : E) → Pair e x y → e .kind (f x y .0) ≡ e .kind y
   pub right-kind : (x y : E) → Pair e x y → e .kind (f x y .1) ≡ e .kind x
   pub left-stranger : (x y : E) → e .belongs x ≡ false → f x y ≡ (x, y)

@@ -1,0 +1,5 @@
+pub mod Making
+pub mod Capacity
+pub mod Phases
+pub mod Permutations
+pub mod Affine

@@ -1,0 +1,10 @@
+pub mod Sweeps
+pub mod Places
+pub mod Reordering
+pub mod Insertion
+pub mod Rules
+pub mod Outcomes
+pub mod Granting
+pub mod Deeds
+pub mod Steps
+pub mod Runs

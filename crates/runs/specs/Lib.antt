@@ -1,0 +1,6 @@
+pub mod Sweeps
+pub mod Exchanges
+pub mod Book
+pub mod Calls
+pub mod Runs
+pub mod Theorems
