@@ -5,3 +5,6 @@ pub mod Words
 pub mod Texts
 pub mod Laid
 pub mod Bounds
+pub mod Named
+pub mod Free
+pub mod Alike

@@ -1,7 +1,16 @@
 // What a row file holds, and what a faulty text is answered with.
 ghost use Rattle.rowfile.specs.Headings.{has-code, lawful-parameters};
 ghost use mathlib.Core.Path.{_≡_};
+use exchange::ExchangeMap;
 use exchange::Refusal;
+use maps::Affine;
+use maps::AffineMap;
+use maps::Capacity;
+use maps::CapacityMap;
+use maps::Permutations;
+use maps::PermutationsMap;
+use maps::Phases;
+use maps::PhasesMap;
 
 // `Right` means the mirror of the map.
 #[derive(Clone, Copy)]
@@ -20,18 +29,33 @@ pub enum MapName {
 }
 
 impl MapName {
-    // whether the parameters keep the map's rule
+    // Whether the parameters make a map of that name.
     pub fn parameters_hold(self) -> bool
         ensures { λ r. ⌜ r ≡ lawful-parameters self ⌝ }
     {
-        true
+        match self {
+            MapName::Cap | MapName::Perm => true,
+            MapName::Aff { m, a, b, c, d } => Affine::new(m, a, b, c, d).is_ok(),
+            MapName::Phase { m } => Phases::new(m).is_ok(),
+        }
     }
 
-    // whether `n` is the code of an element
+    // Whether `n` is a code of that map.
     pub fn is_code(self, n: u32) -> bool
         ensures { λ r. ⌜ r ≡ has-code self n ⌝ }
     {
-        true
+        match self {
+            MapName::Cap => Capacity.is_code(n),
+            MapName::Perm => Permutations.is_code(n),
+            MapName::Aff { m, a, b, c, d } => match Affine::new(m, a, b, c, d) {
+                Ok(map) => map.is_code(n),
+                Err(_) => false,
+            },
+            MapName::Phase { m } => match Phases::new(m) {
+                Ok(map) => map.is_code(n),
+                Err(_) => false,
+            },
+        }
     }
 }
 

@@ -1,0 +1,2 @@
+-- Lines that are written alike say the same. Assumes nothing.
+use mathlib.Core.Path.{_≡_}
