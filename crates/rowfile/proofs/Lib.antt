@@ -8,3 +8,4 @@ pub mod Bounds
 pub mod Named
 pub mod Free
 pub mod Alike
+pub mod Verdicts
