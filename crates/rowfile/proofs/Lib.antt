@@ -9,3 +9,4 @@ pub mod Named
 pub mod Free
 pub mod Alike
 pub mod Verdicts
+pub mod Exact

@@ -1,10 +1,12 @@
 -- What the reader answers of a text, and of one line after another. Assumes nothing.
 use Prim.Native.Nat.{ℕ}
 use mathlib.Core.Path.{_≡_}
+use mathlib.Core.Logic.{_⊎_}
 use mathlib.Core.List.{List, [], _∷_, _++_}
 use Rattle.std.specs.Of.Vec.{vec-items}
 use Rattle.std.specs.Results.{Cases}
 use Rattle.std.specs.declared.result.Result.{Result}
+use Rattle.exchange.specs.declared.refusal.Refusal.{Refusal}
 use Rattle.exchange.specs.declared.refusal.Refusal.the-variants.{BadForm}
 use Rattle.rowfile.specs.Lines.{Bytes}
 use Rattle.rowfile.specs.Files.{File, Said, nothing, headed, rowed, Keeps-line, Keeps, written, text-of}
@@ -33,6 +35,14 @@ Refuses t No-memory = Unit {0}
 -- the file that the text t says, or why it is not read
 abbrev pub Reads : Bytes → Result RowFile ReadError → Type 0
 Reads t r = Cases r (λ f. Keeps (file-of f) × (t ≡ text-of (file-of f))) (Refuses t)
+
+-- the answer is f, want of memory apart
+abbrev pub Gives : File → Result RowFile ReadError → Type 0
+Gives f r = Cases r (λ g. file-of g ≡ f) (λ e. e ≡ No-memory)
+
+-- the answer is this fault, want of memory apart
+abbrev pub Finds : ℕ → Refusal → Result RowFile ReadError → Type 0
+Finds n q r = Cases r (λ _. ⊥) (λ e. (e ≡ Faulted (record { line = n; refusal = q })) ⊎ (e ≡ No-memory))
 
 -- the error of a line, with its number
 abbrev pub place : ℕ → LineError → ReadError
