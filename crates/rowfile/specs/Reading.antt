@@ -44,6 +44,14 @@ Gives f r = Cases r (λ g. file-of g ≡ f) (λ e. e ≡ No-memory)
 abbrev pub Finds : ℕ → Refusal → Result RowFile ReadError → Type 0
 Finds n q r = Cases r (λ _. ⊥) (λ e. (e ≡ Faulted (record { line = n; refusal = q })) ⊎ (e ≡ No-memory))
 
+-- the text of a file that keeps the rules is read as that file
+abbrev pub Accepts : Bytes → Result RowFile ReadError → Type 0
+Accepts t r = (f : File) → Keeps f → t ≡ text-of f → Gives f r
+
+-- a faulty text is refused by its fault
+abbrev pub Rejects : Bytes → Result RowFile ReadError → Type 0
+Rejects t r = (n : ℕ) (q : Refusal) → Faulty t n q → Finds n q r
+
 -- the error of a line, with its number
 abbrev pub place : ℕ → LineError → ReadError
 place n (Refused r) = Faulted (record { line = n; refusal = r })

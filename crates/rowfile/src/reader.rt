@@ -1,8 +1,7 @@
 // The text, line by line.
 ghost use Rattle.rowfile.specs.Lines.{fields};
-ghost use Rattle.rowfile.specs.Reading.{Ends, Reads, Takes, placed};
+ghost use Rattle.rowfile.specs.Reading.{Accepts, Ends, Named, Reads, Rejects, Takes, placed};
 ghost use mathlib.Core.Path.{_≡_};
-ghost use Rattle.rowfile.specs.Reading.{Named};
 use crate::fields::until;
 use crate::file::Command;
 use crate::file::Fault;
@@ -87,9 +86,11 @@ impl Reader {
     }
 }
 
-// The file that `text` says, or why it is not read.
+// The file that `text` says, or why it is not read; but for want of memory no other answer is right.
 pub fn read(heap: Global, text: &[u8]) -> Result<RowFile, ReadError>
-    ensures { λ r. ⌜ Reads (now (text .entry)) r ⌝ }
+    ensures says { λ r. ⌜ Reads (now (text .entry)) r ⌝ }
+    ensures accepts { λ r. ⌜ Accepts (now (text .entry)) r ⌝ }
+    ensures rejects { λ r. ⌜ Rejects (now (text .entry)) r ⌝ }
 {
     if text.len() > MAX_BYTES {
         return Err(ReadError::Fault(Fault { line: 0, refusal: Refusal::TooLong }));
