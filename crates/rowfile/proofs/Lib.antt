@@ -10,3 +10,4 @@ pub mod Free
 pub mod Alike
 pub mod Verdicts
 pub mod Exact
+pub mod Copies

@@ -11,10 +11,14 @@ use Rattle.std.specs.Written.{decimal}
 use Rattle.std.specs.shelf.Lists.{All}
 use Rattle.exchange.specs.declared.refusal.Refusal.{Refusal}
 use Rattle.rowfile.specs.Lines.{Bytes}
-use Rattle.rowfile.specs.Files.{Next, Small, Codes, words, numbers, written, swept, Holds, Keeps-line}
+use Rattle.rowfile.specs.Files.{Next, Small, Codes, words, numbers, written, swept, Holds, File, rowed, Keeps-line, Keeps-lines}
+use Rattle.rowfile.specs.Writing.{Misfit}
+use Rattle.rowfile.specs.Writing.Misfit.{at-heading, at-row, at-command}
 use Rattle.rowfile.specs.Faults.{Some, Form, No-number, No-code, Breaks, Ground}
 use Rattle.rowfile.specs.Faults.Ground.{no-form, no-number, no-rule}
 use Rattle.rowfile.specs.Headings.{has-code}
+use Rattle.rowfile.specs.declared.file.Command.{Command}
+use Rattle.rowfile.specs.declared.file.Fault.{Fault}
 use Rattle.rowfile.specs.declared.file.Heading.{Heading}
 use Rattle.rowfile.specs.declared.file.Stage.{Stage}
 use Rattle.rowfile.specs.declared.file.Stage.the-variants.{Map, Row, Commands}
@@ -81,3 +85,14 @@ one-ground s fs r q (no-number x ns f h) (no-rule y e m b) = absurd (not-misnumb
 one-ground s fs r q (no-rule x e m b) (no-form g) = absurd (g x _ (ruled s fs x e))
 one-ground s fs r q (no-rule x e m b) (no-number y ns g i) = absurd (not-misnumbered s x y ns m (sym e ∙ g .0, g .1) i)
 one-ground s fs r q (no-rule x e m b) (no-rule y d n c) = one-break s x r q b (subst (λ z. Breaks s z q) (sym (written-same s x y m n (sym e ∙ d))) c)
+
+kept-at : (h : Heading) (front later : List Command) (c : Command) → All (Keeps-line (Commands h)) (front ++ c ∷ later) → Keeps-line (Commands h) c
+kept-at h [] later c k = k .0
+kept-at h (d ∷ front) later c k = kept-at h front later c (k .1)
+
+-- a file that keeps the rules has no line that breaks one
+pub no-misfit : (f : File) (e : Fault) → Keeps-lines (rowed f) → Misfit f e → ⊥
+no-misfit f e k (at-heading n b) = held Map (f .heading) (e .refusal) (k .0 .1) b
+no-misfit f e k (at-row n g b) = held (Row (f .heading)) (f .codes) (e .refusal) (k .1 .1) b
+no-misfit f e k (at-command g c s) =
+    held (Commands (f .heading)) (s .1) (e .refusal) (kept-at (f .heading) (s .0) (s .2) (s .1) (subst (All (Keeps-line (Commands (f .heading)))) (s .3) (k .2)) .1) (s .5)

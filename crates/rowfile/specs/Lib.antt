@@ -4,3 +4,4 @@ pub mod Files
 pub mod Faults
 pub mod Reading
 pub mod Writing
+pub mod Copying

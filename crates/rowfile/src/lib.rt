@@ -1,5 +1,6 @@
 // The row file: a text that names an exchange map, a row of boxes and the commands to run on it.
 // `read` accepts a text exactly as the one file that it is the text of, and else answers the first fault with its line.
+pub mod copier;
 mod fields;
 pub mod file;
 mod lines;
@@ -7,6 +8,8 @@ mod number;
 pub mod reader;
 pub mod writer;
 
+pub use copier::ReadErrorFromFault;
+pub use copier::rewrite;
 pub use file::Command;
 pub use file::Fault;
 pub use file::Heading;
