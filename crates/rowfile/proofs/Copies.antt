@@ -21,7 +21,7 @@ use Rattle.rowfile.proofs.Verdicts.{no-misfit}
 
 module _ (t out after : Bytes) (f : File) (k : Keeps f) (e : t ≡ text-of f) where
   pub copy-ok : (n : ℕ) → Writes-file f out (Ok n) after → Copies t out (Ok n) after
-  copy-ok n h = (h .1 ∙ ap length (sym e), h .3 ∙ ap (λ b. b ++ drop n out) (sym e))
+  copy-ok n h = (h .1 ∙ ap length (sym e), h .2, h .3 ∙ ap (λ b. b ++ drop n out) (sym e))
 
   short : (x : Fault) → Unwritten f (length out) x → (Faulted x ≡ Faulted (record { line = 0; refusal = TooLong })) × (length out < length t)
   short x (misfit m) = absurd (no-misfit f x (k .0) m)

@@ -1,5 +1,5 @@
 -- A text that is read and written again. Assumes nothing.
-use Prim.Native.Nat.{ℕ, _<_}
+use Prim.Native.Nat.{ℕ, _<_, _≤_}
 use mathlib.Core.Path.{_≡_}
 use mathlib.Core.List.{_++_}
 use mathlib.Core.Logic.{_⊎_}
@@ -21,5 +21,5 @@ One-text = (f g : File) → Keeps f → Keeps g → text-of f ≡ text-of g → 
 abbrev pub Copies : Bytes → Bytes → Result ℕ ReadError → Bytes → Type 0
 Copies t out r after =
     Cases r
-    (λ n. (n ≡ length t) × (after ≡ t ++ drop n out))
+    (λ n. (n ≡ length t) × (n ≤ length out) × (after ≡ t ++ drop n out))
     (λ e. (after ≡ out) × (Refuses t e ⊎ ((e ≡ Faulted (record { line = 0; refusal = TooLong })) × (length out < length t))))
