@@ -12,7 +12,11 @@ fn run(rt: &LibcRuntime) -> Result<(), AnyError> {
     let mut out = [0; 32_768];
     match rewrite(rt.alloc(), &text, &mut out) {
         Ok(length) => rt.stdout().write_all(&out[..length])?,
-        Err(ReadError::Fault(Fault { line, refusal })) => println!(rt, "!\t{line}\t{}", refusal.number())?,
+        Err(ReadError::Fault(Fault { line, refusal })) => println!(
+            rt,
+            "!\t{line}\t{}",
+            refusal.number()
+        )?,
         Err(ReadError::Memory) => return Err("out of memory".into()),
     }
     Ok(())

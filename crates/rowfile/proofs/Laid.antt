@@ -29,9 +29,10 @@ abbrev pub Left : Bytes → ℕ → Bytes → Bytes → ℕ → Bytes → Type 0
 Left out at bs start from all = (laid out at bs ≡ laid start from all) × (at + length bs ≡ from + length all)
 
 pub left-step : (out : Bytes) (at : ℕ) (xs ys bs start : Bytes) (from : ℕ) (all after : Bytes) (r : ℕ) → bs ≡ xs ++ ys → Left out at bs start from all → Lays out at xs after r → Left after r ys start from all
-left-step out at xs ys bs start from all after r e h f =
-    (ap (λ m. laid m r ys) (f .0) ∙ (ap (λ n. laid (laid out at xs) n ys) (f .1) ∙ (sym (laid-append out at xs ys) ∙ (ap (laid out at) (sym e) ∙ h .0))),
-     omega (arith, h .1, f .1, length-append xs ys, ap length e))
+left-step out at xs ys bs start from all after r e h f = (
+  ap (λ m. laid m r ys) (f .0) ∙ (ap (λ n. laid (laid out at xs) n ys) (f .1) ∙ (sym (laid-append out at xs ys) ∙ (ap (laid out at) (sym e) ∙ h .0))),
+  omega (arith, h .1, f .1, length-append xs ys, ap length e),
+)
 
 pub left-end : (out : Bytes) (at : ℕ) (bs start : Bytes) (from : ℕ) (all : Bytes) → bs ≡ [] → Left out at bs start from all → Lays start from all out at
 left-end out at bs start from all e h = (ap (laid out at) (sym e) ∙ h .0, omega (arith, h .1, ap length e))

@@ -69,6 +69,7 @@ no-lead (c ∷ cs) k z n w = ⊎-elim zero-case some-case (cases-eq n 0)
         let f = subst (λ l. 48 < getD l 0 0) (sym (w .1)) (first-decimal n p s) in
         let d = tells-allDigits .parts c cs (digits-of (c ∷ cs) n w .0) in
         k (omega arith) f (d .0 .1)
+
     zero-case : n ≡ 0 → ⊥
     zero-case e =
         let q : c ∷ cs ≡ 48 ∷ [] = w .1 ∙ (ap decimal e ∙ decimal-digit 0 (omega arith)) in

@@ -34,10 +34,13 @@ parted-step s c cs h = ⊎-elim mark other (cases-eq c s)
   where
     q : (p : Bytes) × (ps : List Bytes) × (parts s cs ≡ p ∷ ps)
     q = some-part s cs
+
     whole : q .0 ++ led s (q .1) ≡ cs
     whole = ap (parted s) (sym (q .2)) ∙ h
+
     mark : c ≡ s → parted s (parts s (c ∷ cs)) ≡ c ∷ cs
     mark e = ap (parted s) (cond-true (eqb c s) _ _ (eq-eqb c s e)) ∙ (ap (led s) (q .2) ∙ (ap (λ l. s ∷ l) whole ∙ ap (λ k. k ∷ cs) (sym e)))
+
     other : (c ≡ s → ⊥) → parted s (parts s (c ∷ cs)) ≡ c ∷ cs
     other n = ap (parted s) (cond-false (eqb c s) _ _ (ne-eqb c s n) ∙ ap (grown c) (q .2)) ∙ ap (λ l. c ∷ l) whole
 

@@ -36,6 +36,7 @@ some-number P (k ∷ ns) (m ∷ ms) gs n e s l h = inr (some-number P ns ms gs n
 
 -- one more number of those that the fields write
 pub one-more : (fs gs : List Bytes) (ns : List ℕ) (f : Bytes) (n : ℕ) → fs ≡ map decimal ns ++ (f ∷ gs) → Small ns → Writes f n → (fs ≡ map decimal (ns ++ n ∷ []) ++ gs) × Small (ns ++ n ∷ [])
-one-more fs gs ns f n e s w =
-    (e ∙ (ap (λ g. map decimal ns ++ (g ∷ gs)) (w .1) ∙ (sym (append-assoc (map decimal ns) (decimal n ∷ []) gs) ∙ ap (λ l. l ++ gs) (sym (map-push decimal ns n)))),
-     all-push (λ k. k < 2 ^ 32) ns n s (w .0))
+one-more fs gs ns f n e s w = (
+  e ∙ (ap (λ g. map decimal ns ++ (g ∷ gs)) (w .1) ∙ (sym (append-assoc (map decimal ns) (decimal n ∷ []) gs) ∙ ap (λ l. l ++ gs) (sym (map-push decimal ns n)))),
+  all-push (λ k. k < 2 ^ 32) ns n s (w .0),
+)

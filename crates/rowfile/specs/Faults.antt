@@ -18,7 +18,6 @@ use Rattle.exchange.specs.declared.refusal.Refusal.the-variants.{TooLong, BadFo
 use Rattle.rowfile.specs.Headings.{lawful-parameters, has-code}
 use Rattle.rowfile.specs.Lines.{Bytes, Writes, behind, lines, fields, line-of}
 use Rattle.rowfile.specs.Files.{Next, name-word, parameters, words, numbers, written, swept, Small, Keeps-line, Said, stage-of, lines-of, Keeps-lines}
-
 use Rattle.rowfile.specs.declared.file.MapName.{MapName}
 use Rattle.rowfile.specs.declared.file.Heading.{Heading}
 use Rattle.rowfile.specs.declared.lines.Record.{Record}

@@ -24,8 +24,16 @@ pub enum Side {
 pub enum MapName {
     Cap,
     Perm,
-    Aff { m: u32, a: u32, b: u32, c: u32, d: u32 },
-    Phase { m: u32 },
+    Aff {
+        m: u32,
+        a: u32,
+        b: u32,
+        c: u32,
+        d: u32,
+    },
+    Phase {
+        m: u32,
+    },
 }
 
 impl MapName {

@@ -69,20 +69,55 @@ pub impl From<BadNumber> for Refusal as RefusalFromNumber {
 // A row and a command are read under the heading of the text.
 #[derive(Clone, Copy)]
 pub enum Record<'a> {
-    Map { fields: &'a [u8], line: u32, offset: usize },
-    Row { heading: Heading, fields: &'a [u8], line: u32, offset: usize },
-    Command { heading: Heading, letter: char, fields: &'a [u8], line: u32, offset: usize },
+    Map {
+        fields: &'a [u8],
+        line: u32,
+        offset: usize,
+    },
+    Row {
+        heading: Heading,
+        fields: &'a [u8],
+        line: u32,
+        offset: usize,
+    },
+    Command {
+        heading: Heading,
+        letter: char,
+        fields: &'a [u8],
+        line: u32,
+        offset: usize,
+    },
 }
 
 // The record that `bytes`, a line without its byte 10, is at this stage.
-pub fn recognize(stage: Stage, bytes: &[u8], line: u32, offset: usize) -> Result<Record<'_>, Refusal>
+pub fn recognize(
+    stage: Stage,
+    bytes: &[u8],
+    line: u32,
+    offset: usize,
+) -> Result<Record<'_>, Refusal>
     ensures { λ r. ⌜ Recorded stage (now (bytes .entry)) line offset r ⌝ }
 {
     let (first, fields) = bytes.split_at(until(bytes, b'\t'));
     match (stage, first) {
-        (Stage::Map, b"map") => Ok(Record::Map { fields, line, offset }),
-        (Stage::Row(heading), b"row") => Ok(Record::Row { heading, fields, line, offset }),
-        (Stage::Commands(heading), [letter]) => Ok(Record::Command { heading, letter: char::from(*letter), fields, line, offset }),
+        (Stage::Map, b"map") => Ok(Record::Map {
+            fields,
+            line,
+            offset,
+        }),
+        (Stage::Row(heading), b"row") => Ok(Record::Row {
+            heading,
+            fields,
+            line,
+            offset,
+        }),
+        (Stage::Commands(heading), [letter]) => Ok(Record::Command {
+            heading,
+            letter: char::from(*letter),
+            fields,
+            line,
+            offset,
+        }),
         _ => Err(Refusal::BadForm),
     }
 }

@@ -35,7 +35,10 @@ impl From<Placed> for ReadError as ReadErrorFromPlaced {
 
     fn from(e: Placed) -> ReadError {
         match e.error {
-            LineError::Refused(refusal) => ReadError::Fault(Fault { line: e.line, refusal }),
+            LineError::Refused(refusal) => ReadError::Fault(Fault {
+                line: e.line,
+                refusal,
+            }),
             LineError::Memory => ReadError::Memory,
         }
     }
@@ -61,16 +64,31 @@ struct Reader {
 
 impl Reader {
     // Reads one more line, given without its byte 10.
-    fn read_line(&mut self, heap: Global, bytes: &[u8], line: u32, offset: usize) -> Result<(), LineError>
+    fn read_line(
+        &mut self,
+        heap: Global,
+        bytes: &[u8],
+        line: u32,
+        offset: usize,
+    ) -> Result<(), LineError>
         ensures { λ r. ⌜ Takes (now (self .entry)) (fields (now (bytes .entry))) r (now (self .exit)) ⌝ }
     {
         match recognize(self.stage, bytes, line, offset)? {
             Record::Map { fields, .. } => self.stage = Stage::Row(heading(fields)?),
-            Record::Row { heading, fields, .. } => {
+            Record::Row {
+                heading,
+                fields,
+                ..
+            } => {
                 self.codes = row_codes(heap, heading, fields)?;
                 self.stage = Stage::Commands(heading);
             }
-            Record::Command { heading, letter, fields, .. } => self.commands.push(command(heading, letter, fields)?)?,
+            Record::Command {
+                heading,
+                letter,
+                fields,
+                ..
+            } => self.commands.push(command(heading, letter, fields)?)?,
         }
         Ok(())
     }
@@ -80,8 +98,15 @@ impl Reader {
         ensures { λ r. ⌜ Ends self line r ⌝ }
     {
         match self.stage {
-            Stage::Commands(heading) => Ok(RowFile { heading, codes: self.codes, commands: self.commands }),
-            _ => Err(ReadError::Fault(Fault { line, refusal: Refusal::BadForm })),
+            Stage::Commands(heading) => Ok(RowFile {
+                heading,
+                codes: self.codes,
+                commands: self.commands,
+            }),
+            _ => Err(ReadError::Fault(Fault {
+                line,
+                refusal: Refusal::BadForm,
+            })),
         }
     }
 }
@@ -93,9 +118,16 @@ pub fn read(heap: Global, text: &[u8]) -> Result<RowFile, ReadError>
     ensures rejects { λ r. ⌜ Rejects (now (text .entry)) r ⌝ }
 {
     if text.len() > MAX_BYTES {
-        return Err(ReadError::Fault(Fault { line: 0, refusal: Refusal::TooLong }));
+        return Err(ReadError::Fault(Fault {
+            line: 0,
+            refusal: Refusal::TooLong,
+        }));
     }
-    let mut reader = Reader { stage: Stage::Map, codes: Vec::new(heap), commands: Vec::new(heap) };
+    let mut reader = Reader {
+        stage: Stage::Map,
+        codes: Vec::new(heap),
+        commands: Vec::new(heap),
+    };
     let mut line = 0;
     let mut offset = 0;
     while offset < text.len() {
@@ -103,7 +135,10 @@ pub fn read(heap: Global, text: &[u8]) -> Result<RowFile, ReadError>
         let rest = &text[offset..];
         let length = until(rest, b'\n');
         if length == rest.len() {
-            return Err(ReadError::Fault(Fault { line, refusal: Refusal::BadForm }));
+            return Err(ReadError::Fault(Fault {
+                line,
+                refusal: Refusal::BadForm,
+            }));
         }
         at_line(line, reader.read_line(heap, &rest[..length], line, offset))?;
         offset += length + 1;

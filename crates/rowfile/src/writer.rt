@@ -50,7 +50,11 @@ fn check_row(heading: Heading, codes: &[u32]) -> Result<(), Refusal>
 fn command_line(place: usize) -> u32
     ensures { λ r. ⌜ r ≡ min (place + 3) 4294967295 ⌝ }
 {
-    if place < 4_294_967_292 { place as u32 + 3 } else { 4_294_967_295 }
+    if place < 4_294_967_292 {
+        place as u32 + 3
+    } else {
+        4_294_967_295
+    }
 }
 
 fn check_commands(heading: Heading, commands: &[Command]) -> Result<(), Fault>
@@ -58,7 +62,10 @@ fn check_commands(heading: Heading, commands: &[Command]) -> Result<(), Fault>
 {
     for (i, command) in commands.iter().enumerate() {
         if !holds(heading, *command) {
-            return Err(Fault { line: command_line(i), refusal: Refusal::NoElement });
+            return Err(Fault {
+                line: command_line(i),
+                refusal: Refusal::NoElement,
+            });
         }
     }
     Ok(())
@@ -69,7 +76,10 @@ fn check(heading: Heading, codes: &[u32], commands: &[Command]) -> Result<(), Fa
     ensures { λ r. ⌜ Cases r (λ _. Keeps-lines (rowed (filed heading (now (codes .entry)) (now (commands .entry))))) (Misfits (filed heading (now (codes .entry)) (now (commands .entry)))) ⌝ }
 {
     if !heading.map.parameters_hold() {
-        return Err(Fault { line: 1, refusal: Refusal::BadParameters });
+        return Err(Fault {
+            line: 1,
+            refusal: Refusal::BadParameters,
+        });
     }
     if let Err(refusal) = check_row(heading, codes) {
         return Err(Fault { line: 2, refusal });
@@ -103,7 +113,11 @@ fn put_number(out: &mut [u8], at: usize, n: u32) -> usize
     requires { ⌜ at + length (decimal n) < 2 ^ 64 ⌝ }
     ensures { λ r. ⌜ Lays (now (out .entry)) at (decimal n) (now (out .exit)) r ⌝ }
 {
-    let at = if n < 10 { at } else { put_number(out, at, n / 10) };
+    let at = if n < 10 {
+        at
+    } else {
+        put_number(out, at, n / 10)
+    };
     put(out, at, b'0' + (n % 10) as u8)
 }
 
@@ -213,16 +227,27 @@ fn put_text(out: &mut [u8], heading: Heading, codes: &[u32], commands: &[Command
 
 // Writes the text of a file to the start of `out` and answers its length.
 // All is checked before a byte is written.
-pub fn write(heading: Heading, codes: &[u32], commands: &[Command], out: &mut [u8]) -> Result<usize, Fault>
+pub fn write(
+    heading: Heading,
+    codes: &[u32],
+    commands: &[Command],
+    out: &mut [u8],
+) -> Result<usize, Fault>
     ensures { λ r. ⌜ Writes-file (filed heading (now (codes .entry)) (now (commands .entry))) (now (out .entry)) r (now (out .exit)) ⌝ }
 {
     check(heading, codes, commands)?;
     if commands.len() > MAX_BYTES {
-        return Err(Fault { line: 0, refusal: Refusal::TooLong });
+        return Err(Fault {
+            line: 0,
+            refusal: Refusal::TooLong,
+        });
     }
     let length = put_text(&mut [], heading, codes, commands);
     if length > MAX_BYTES || length > out.len() {
-        return Err(Fault { line: 0, refusal: Refusal::TooLong });
+        return Err(Fault {
+            line: 0,
+            refusal: Refusal::TooLong,
+        });
     }
     put_text(out, heading, codes, commands);
     Ok(length)

@@ -40,7 +40,8 @@ returns g c =
     let xs = c .loop-field .values in
     let r = c .in-rest .ensures tt in
     let l = ap length r in
-    let t : take (c .loop-field .count) xs ≡ xs = take-all (c .loop-field .count) xs (omega arith) in
-    (c .loop-field .inv .2 ∙ (ap (λ k. map decimal (take (c .loop-field .count) xs) ++ k) r ∙ (append-nil (map decimal (take (c .loop-field .count) xs)) ∙ ap (map decimal) t)),
-     subst Small t (c .loop-field .inv .3),
-     c .loop-field .inv .1)
+    let t : take (c .loop-field .count) xs ≡ xs = take-all (c .loop-field .count) xs (omega arith) in (
+      c .loop-field .inv .2 ∙ (ap (λ k. map decimal (take (c .loop-field .count) xs) ++ k) r ∙ (append-nil (map decimal (take (c .loop-field .count) xs)) ∙ ap (map decimal) t)),
+      subst Small t (c .loop-field .inv .3),
+      c .loop-field .inv .1,
+    )

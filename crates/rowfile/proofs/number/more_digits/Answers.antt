@@ -24,10 +24,11 @@ returns-then-value-gt4294967295 c = λ n w.
 
 pub loop-b-again : need.loop-b-again
 loop-b-again c =
-    let i = c .loop-b .b-index in
-    (omega arith,
-     digits-step (c .args .rest .now) i (c .loop-b-test .taken) (c .if-b-lt48 .left) (c .if-b-gt57 .left) ∙ c .loop-b .inv .1,
-     read-step (c .args .rest .now) i (c .loop-b .value) (c .from .result) (c .loop-b-test .taken) (c .from .ensures) ∙ c .loop-b .inv .2)
+    let i = c .loop-b .b-index in (
+      omega arith,
+      digits-step (c .args .rest .now) i (c .loop-b-test .taken) (c .if-b-lt48 .left) (c .if-b-gt57 .left) ∙ c .loop-b .inv .1,
+      read-step (c .args .rest .now) i (c .loop-b .value) (c .from .result) (c .loop-b-test .taken) (c .from .ensures) ∙ c .loop-b .inv .2,
+    )
 
 pub returns : need.returns
 returns c =

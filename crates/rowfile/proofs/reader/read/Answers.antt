@@ -65,13 +65,14 @@ loop-offset-again c =
     let q = takes-ok (c .loop-offset .reader) (c .read-line .last .self) _ (i .3) (c .loop-offset .line + 1) (c .read-line .result) (c .in-Continue-at-line .field-0) (c .read-line .ensures) (c .in-Continue-at-line .ensures tt) in
     let l = line-at t o n (c .until-length .ensures) (c .if-length-rest .left) in
     let s = said (c .loop-offset .reader) in
-    let u = said (c .read-line .last .self) in
-    (more-lines s u _ (lines t) _ (q .0) (i .0 ∙ ap (λ k. map line-of (lines-of s) ++ k) (l .0)),
-     follows-keeps s _ u (q .0) (i .1),
-     ap (λ k. k + 1) (i .2) ∙ (sym (length-push (lines-of s) _) ∙ ap length (sym (follows-lines s _ u (q .0)))),
-     q .1,
-     omega (arith, l .1),
-     omega arith)
+    let u = said (c .read-line .last .self) in (
+      more-lines s u _ (lines t) _ (q .0) (i .0 ∙ ap (λ k. map line-of (lines-of s) ++ k) (l .0)),
+      follows-keeps s _ u (q .0) (i .1),
+      ap (λ k. k + 1) (i .2) ∙ (sym (length-push (lines-of s) _) ∙ ap length (sym (follows-lines s _ u (q .0)))),
+      q .1,
+      omega (arith, l .1),
+      omega arith,
+    )
 
 pub returns : need.returns
 returns c =

@@ -24,8 +24,9 @@ put-requires t c κs =
     let n = c .args .n in
     let s : n < 2 ^ 64 = omega arith in
     elim (c .if-n-lt10 .came) [
-      then-n-lt10 w ↦ omega (arith, decimal-some n s)
-    | else-n-lt10 w ↦ let e = ap length (decimal-step n (w .if-n-lt10 .left) s) ∙ length-push (decimal (n / 10)) (48 + n % 10) in omega (arith, w .put-number-at .ensures .1) ]
+      | then-n-lt10 w ↦ omega (arith, decimal-some n s)
+      | else-n-lt10 w ↦ let e = ap length (decimal-step n (w .if-n-lt10 .left) s) ∙ length-push (decimal (n / 10)) (48 + n % 10) in omega (arith, w .put-number-at .ensures .1)
+    ]
 
 pub returns : need.returns
 returns t c =
@@ -33,5 +34,6 @@ returns t c =
     let s : n < 2 ^ 64 = omega arith in
     let g = c .put .ensures in
     elim (c .if-n-lt10 .came) [
-      then-n-lt10 w ↦ lays-digit (c .args .out .now) (c .args .at) n (c .put .last .out) (c .put .result) (w .if-n-lt10 .taken) (cc, omega arith)
-    | else-n-lt10 w ↦ lays-digits (c .args .out .now) (c .args .at) n (c .if-n-lt10 .out) (c .put .last .out) (c .if-n-lt10 .at) (c .put .result) (w .if-n-lt10 .left) s (w .out-is ∙ w .put-number-at .ensures .0, w .at-is ∙ w .put-number-at .ensures .1) g ]
+      | then-n-lt10 w ↦ lays-digit (c .args .out .now) (c .args .at) n (c .put .last .out) (c .put .result) (w .if-n-lt10 .taken) (cc, omega arith)
+      | else-n-lt10 w ↦ lays-digits (c .args .out .now) (c .args .at) n (c .if-n-lt10 .out) (c .put .last .out) (c .if-n-lt10 .at) (c .put .result) (w .if-n-lt10 .left) s (w .out-is ∙ w .put-number-at .ensures .0, w .at-is ∙ w .put-number-at .ensures .1) g
+    ]

@@ -39,7 +39,7 @@ returns c =
     let ns = c .args .codes .now in
     let cs = c .args .commands .now in
     let l = lays-five (c .args .out .now) 0 (line-of (written Map h)) (bytes "\nrow") (led 9 (map decimal ns)) (10 ∷ []) (commands-text cs)
-            (c .put-heading-at .last .out) (c .put-word-at .last .out) (c .put-numbers-at .last .out) (c .put-at .last .out) (c .put-commands .last .out)
-            (c .put-heading-at .result) (c .put-word-at .result) (c .put-numbers-at .result) (c .put-at .result) (c .put-commands .result)
-            (c .put-heading-at .ensures) (c .put-word-at .ensures) (c .put-numbers-at .ensures) (c .put-at .ensures) (c .put-commands .ensures) in
+    (c .put-heading-at .last .out) (c .put-word-at .last .out) (c .put-numbers-at .last .out) (c .put-at .last .out) (c .put-commands .last .out)
+    (c .put-heading-at .result) (c .put-word-at .result) (c .put-numbers-at .result) (c .put-at .result) (c .put-commands .result)
+    (c .put-heading-at .ensures) (c .put-word-at .ensures) (c .put-numbers-at .ensures) (c .put-at .ensures) (c .put-commands .ensures) in
     subst (λ bs. Lays (c .args .out .now) 0 bs (c .put-commands .last .out) (c .put-commands .result)) (sym (text-is h ns cs)) l
