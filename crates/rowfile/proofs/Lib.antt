@@ -1,0 +1,13 @@
+pub mod Numbers
+pub mod Parts
+pub mod Somes
+pub mod Words
+pub mod Texts
+pub mod Laid
+pub mod Bounds
+pub mod Named
+pub mod Free
+pub mod Alike
+pub mod Verdicts
+pub mod Exact
+pub mod Copies
