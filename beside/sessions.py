@@ -338,8 +338,8 @@ def refusals_at_boundaries():
     places = [0, 1, 2, 3, 255, 256, 65_535, 65_536, 4_294_967_294, 4_294_967_295]
     kinds = [0, 1, 2, 3, 4, 255, 256, 257, 258, 259, 65_537, 4_294_967_295]
     worlds = {
-        "cap": [256, 513, 771, 512], "perm": [IDENTITY, 342_391, IDENTITY + 7, IDENTITY],
-        "aff 10 3 5 7 5": [2, 4, 9, 0], "phase 10": [65_537, 131_076, 196_609, 65_540],
+        "cap": [256, 513, 771, 512], "perm": [IDENTITY - 7, 342_391, IDENTITY - 56, IDENTITY],
+        "aff 11 2 8 4 2": [2, 4, 9, 0], "phase 10": [65_537, 131_076, 196_609, 65_540],
     }
     for side in "LR":
         for name, codes in worlds.items():
@@ -356,9 +356,19 @@ def refusals_at_boundaries():
             boxes = line_of("row", [rng.choice(codes) for _ in range(MOST_BOXES)])
             sweeps = [f"S {rng.choice(codes)}" for _ in range(24)]
             yield text_of(f"map {side} {name}", boxes, *sweeps, "P", "X 3", "Y 7", "N 2", *["B"] * 24, "P")
-    boxes = line_of("row", [rng.choice([256, 257, 513]) for _ in range(MOST_BOXES)])
-    sweeps = [f"S {rng.choice([257, 512, 65280])}" for _ in range(LOG_PLACES + 1)]
-    yield text_of("map L cap", boxes, *sweeps, "P", "N 1", *["B"] * (LOG_PLACES + 1), "P")
+
+
+def largest():
+    """A full row with a full log, the widest lines, and the longest output."""
+    rng = random.Random(16)
+    heading, codes = "map L phase 65535", [65_536 * kind + 65_534 for kind in (200, 254, 255)]
+    row = line_of("row", [rng.choice(codes) for _ in range(MOST_BOXES)])
+    sweeps = [f"S {rng.choice(codes)}" for _ in range(LOG_PLACES + 1)]
+    yield text_of(heading, row, *sweeps, "P", "N 255", "N 200", *["B"] * (LOG_PLACES + 1), "P")
+    opening = text_of(heading, row)
+    yield opening + b"P\n" * ((LONGEST_TEXT - len(opening)) // 2)
+    opening = text_of(heading, "row", *sweeps)
+    yield opening + b"N\t200\nN\t255\n" * ((LONGEST_TEXT - len(opening)) // 12)
 
 
 RANDOM = [(short, 50), (changed, 34), (parameters, 6), (full_log, 3), (programme, 4), (long_row, 3)]
@@ -368,6 +378,7 @@ def all_sessions(seed):
     """Pairs of a sort and a text, without end: the boundaries first, then random ones."""
     yield from (("text boundary", text) for text in texts_at_boundaries())
     yield from (("refusal boundary", text) for text in refusals_at_boundaries())
+    yield from (("largest", text) for text in largest())
     rng = random.Random(seed)
     makers, weights = zip(*RANDOM)
     while True:
