@@ -8,6 +8,7 @@ the text and both outputs in target/beside.
 """
 
 import argparse
+import shutil
 import subprocess
 import sys
 from collections import Counter
@@ -58,8 +59,8 @@ def first_difference(due, book_output, program_output, ending):
         return f"the program ends badly: {ending}"
     if program_output != book_output:
         lines = zip(book_output.split(b"\n"), program_output.split(b"\n"))
-        same = next((i for i, (ours, theirs) in enumerate(lines) if ours != theirs), None)
-        return "the outputs differ" + ("" if same is None else f" at line {same + 1}")
+        at = next((i for i, (ours, theirs) in enumerate(lines, start=1) if ours != theirs), None)
+        return "one output ends early" if at is None else f"the outputs differ at line {at}"
     return ""
 
 
@@ -86,7 +87,7 @@ def main():
     options.add_argument("--seed", type=int, default=1)
     options.add_argument("program", nargs=argparse.REMAINDER)
     chosen = options.parse_args()
-    if not chosen.program:
+    if not chosen.program or shutil.which(chosen.program[0]) is None:
         options.error("a program to compare with is needed")
     cases = list(all_cases(chosen.count, chosen.seed))
     sorts, lines = Counter(), Counter()
