@@ -1,4 +1,4 @@
-// What the measuring program calls, for each map: rows and carriers as codes, maps by the parameters that stand here.
+// What the measuring program calls, for each map: its parameters, and row and carriers as codes.
 use crate::benches::measured;
 use crate::checksum::mix_file;
 use crate::work::Exchanges;
@@ -23,6 +23,7 @@ use std::alloc::Global;
 #[unsafe(no_mangle)]
 pub extern "C" fn rattle_cap_sweeps(
     heap: Global,
+    _parameters: &[u32],
     codes: &[u32],
     carriers: &[u32],
     rounds: u32,
@@ -33,6 +34,7 @@ pub extern "C" fn rattle_cap_sweeps(
 #[unsafe(no_mangle)]
 pub extern "C" fn rattle_cap_exchanges(
     heap: Global,
+    _parameters: &[u32],
     codes: &[u32],
     carriers: &[u32],
     rounds: u32,
@@ -43,6 +45,7 @@ pub extern "C" fn rattle_cap_exchanges(
 #[unsafe(no_mangle)]
 pub extern "C" fn rattle_cap_raises(
     heap: Global,
+    _parameters: &[u32],
     codes: &[u32],
     carriers: &[u32],
     rounds: u32,
@@ -53,6 +56,7 @@ pub extern "C" fn rattle_cap_raises(
 #[unsafe(no_mangle)]
 pub extern "C" fn rattle_perm_sweeps(
     heap: Global,
+    _parameters: &[u32],
     codes: &[u32],
     carriers: &[u32],
     rounds: u32,
@@ -63,6 +67,7 @@ pub extern "C" fn rattle_perm_sweeps(
 #[unsafe(no_mangle)]
 pub extern "C" fn rattle_perm_exchanges(
     heap: Global,
+    _parameters: &[u32],
     codes: &[u32],
     carriers: &[u32],
     rounds: u32,
@@ -73,11 +78,15 @@ pub extern "C" fn rattle_perm_exchanges(
 #[unsafe(no_mangle)]
 pub extern "C" fn rattle_aff_sweeps(
     heap: Global,
+    parameters: &[u32],
     codes: &[u32],
     carriers: &[u32],
     rounds: u32,
 ) -> u32 {
-    match Affine::new(65_521, 3, 1, 9, 4) {
+    let [m, a, b, c, d] = parameters else {
+        return u32::MAX;
+    };
+    match Affine::new(*m, *a, *b, *c, *d) {
         Ok(map) => measured(heap, &map, &Sweeps, codes, carriers, rounds),
         Err(_) => u32::MAX,
     }
@@ -86,11 +95,15 @@ pub extern "C" fn rattle_aff_sweeps(
 #[unsafe(no_mangle)]
 pub extern "C" fn rattle_aff_exchanges(
     heap: Global,
+    parameters: &[u32],
     codes: &[u32],
     carriers: &[u32],
     rounds: u32,
 ) -> u32 {
-    match Affine::new(65_521, 3, 1, 9, 4) {
+    let [m, a, b, c, d] = parameters else {
+        return u32::MAX;
+    };
+    match Affine::new(*m, *a, *b, *c, *d) {
         Ok(map) => measured(heap, &map, &Exchanges, codes, carriers, rounds),
         Err(_) => u32::MAX,
     }
@@ -99,11 +112,15 @@ pub extern "C" fn rattle_aff_exchanges(
 #[unsafe(no_mangle)]
 pub extern "C" fn rattle_phase_sweeps(
     heap: Global,
+    parameters: &[u32],
     codes: &[u32],
     carriers: &[u32],
     rounds: u32,
 ) -> u32 {
-    match Phases::new(65_521) {
+    let [m] = parameters else {
+        return u32::MAX;
+    };
+    match Phases::new(*m) {
         Ok(map) => measured(heap, &map, &Sweeps, codes, carriers, rounds),
         Err(_) => u32::MAX,
     }
@@ -112,11 +129,15 @@ pub extern "C" fn rattle_phase_sweeps(
 #[unsafe(no_mangle)]
 pub extern "C" fn rattle_phase_exchanges(
     heap: Global,
+    parameters: &[u32],
     codes: &[u32],
     carriers: &[u32],
     rounds: u32,
 ) -> u32 {
-    match Phases::new(65_521) {
+    let [m] = parameters else {
+        return u32::MAX;
+    };
+    match Phases::new(*m) {
         Ok(map) => measured(heap, &map, &Exchanges, codes, carriers, rounds),
         Err(_) => u32::MAX,
     }
@@ -125,11 +146,15 @@ pub extern "C" fn rattle_phase_exchanges(
 #[unsafe(no_mangle)]
 pub extern "C" fn rattle_phase_raises(
     heap: Global,
+    parameters: &[u32],
     codes: &[u32],
     carriers: &[u32],
     rounds: u32,
 ) -> u32 {
-    match Phases::new(65_521) {
+    let [m] = parameters else {
+        return u32::MAX;
+    };
+    match Phases::new(*m) {
         Ok(map) => measured(heap, &map, &Raises, codes, carriers, rounds),
         Err(_) => u32::MAX,
     }
