@@ -19,8 +19,9 @@ pub impl ExchangeMap for Capacity as CapacityMap {
 
     ghost meaning = { λ _. capacity-map };
 
+    // One comparison: the capacity is at least 1 and at least the balls.
     fn belongs(&self, x: Holder) -> bool {
-        x.capacity >= 1 && x.balls <= x.capacity
+        x.balls.max(1) <= x.capacity
     }
 
     fn kind(&self, x: Holder) -> u8 {
