@@ -38,22 +38,6 @@ impl Phases {
     {
         self.gained(phase, self.modulus - t % self.modulus)
     }
-
-    // The sign stands here: the one that passes to the right loses the shift.
-    fn pass(&self, left: Soliton, right: Soliton) -> (Soliton, Soliton)
-        ensures { λ r. ⌜ r ≡ passes (now (self .entry) .modulus) left right ⌝ }
-    {
-        let t = 2 * u16::from(left.kind.min(right.kind));
-        let new_left = Soliton {
-            kind: right.kind,
-            phase: self.gained(right.phase, t),
-        };
-        let new_right = Soliton {
-            kind: left.kind,
-            phase: self.lost(left.phase, t),
-        };
-        (new_left, new_right)
-    }
 }
 
 pub impl ExchangeMap for Phases as PhasesMap {
@@ -97,10 +81,23 @@ pub impl ExchangeMap for Phases as PhasesMap {
     }
 
     fn cross(&self, left: Soliton, right: Soliton) -> (Soliton, Soliton) {
-        if left.kind == right.kind || !self.belongs(left) || !self.belongs(right) {
+        // both kinds are above 0 if the lesser is, and both phases below the modulus if the greater is
+        let lesser = left.kind.min(right.kind);
+        let greater = left.phase.max(right.phase);
+        if left.kind == right.kind || lesser == 0 || greater >= self.modulus {
             return (left, right);
         }
-        self.pass(left, right)
+        // The sign stands here: the one that passes to the right loses the shift.
+        let t = 2 * u16::from(lesser);
+        let new_left = Soliton {
+            kind: right.kind,
+            phase: self.gained(right.phase, t),
+        };
+        let new_right = Soliton {
+            kind: left.kind,
+            phase: self.lost(left.phase, t),
+        };
+        (new_left, new_right)
     }
 
     fn uncross(&self, left: Soliton, right: Soliton) -> (Soliton, Soliton) {
