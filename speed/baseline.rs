@@ -40,7 +40,7 @@ impl ExchangeMap for Capacity {
     type Elem = Holder;
 
     fn belongs(&self, x: Holder) -> bool {
-        x.capacity >= 1 && x.balls <= x.capacity
+        x.balls.max(1) <= x.capacity
     }
 
     fn kind(&self, x: Holder) -> u8 {
@@ -334,10 +334,11 @@ impl ExchangeMap for Phases {
     }
 
     fn cross(&self, left: Soliton, right: Soliton) -> (Soliton, Soliton) {
-        if left.kind == right.kind || !self.belongs(left) || !self.belongs(right) {
+        let least = left.kind.min(right.kind);
+        if left.kind == right.kind || least == 0 || left.phase.max(right.phase) >= self.modulus {
             return (left, right);
         }
-        let t = 2 * u16::from(left.kind.min(right.kind));
+        let t = 2 * u16::from(least);
         let new_left = Soliton {
             kind: right.kind,
             phase: self.gained(right.phase, t),
