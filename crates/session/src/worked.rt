@@ -4,5 +4,4 @@ ghost use Rattle.session.specs.Worked.{Worked};
 // Every row of the table holds.
 pub fn worked_examples_hold()
     ensures { λ _. ⌜ Worked ⌝ }
-{
-}
+{}
