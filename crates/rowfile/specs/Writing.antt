@@ -37,9 +37,6 @@ pub data Misfit (f : File) (e : Fault) : Type 0 where
   at-row : e .line ≡ 2 → Keeps-line Map (f .heading) → Breaks (Row (f .heading)) (f .codes) (e .refusal) → Misfit f e
   at-command : Keeps-line Map (f .heading) → Keeps-line (Row (f .heading)) (f .codes) → Strays (f .heading) (f .commands) e → Misfit f e
 
-abbrev pub Misfits : File → Fault → Type 0
-Misfits f e = Misfit f e
-
 -- memory with bytes written from a place on, as far as there is room
 abbrev pub laid : Bytes → ℕ → Bytes → Bytes
 laid out at [] = out
