@@ -8,10 +8,9 @@ use Rattle.std.specs.Results.{Cases}
 use Rattle.std.specs.Written.{decimal}
 use Rattle.std.specs.declared.result.Result.{Result}
 use Rattle.std.specs.shelf.Lists.{All}
-use Rattle.exchange.specs.declared.refusal.Refusal.{Refusal}
 use Rattle.exchange.specs.declared.refusal.Refusal.the-variants.{TooLong}
 use Rattle.rowfile.specs.Lines.{Bytes, line-of, ended}
-use Rattle.rowfile.specs.Files.{File, rowed, headed, written, letter, argument, text-of, Keeps-line, Keeps-lines, Keeps}
+use Rattle.rowfile.specs.Files.{File, rowed, letter, argument, text-of, Keeps-line, Keeps-lines, Keeps}
 use Rattle.rowfile.specs.Faults.{Breaks}
 use Rattle.rowfile.specs.declared.file.Command.{Command}
 use Rattle.rowfile.specs.declared.file.Fault.{Fault}

@@ -1,6 +1,7 @@
 // What one line says, or why it is faulty.
 ghost use Rattle.exchange.specs.declared.refusal.Refusal.the-variants.{BadForm as FormRefused, BadNumber as NumberRefused};
-ghost use Rattle.rowfile.specs.Faults.{Judged, Judged-row, Named, No-number, Reads-numbers, Recorded, Some, Writes-all};
+ghost use Rattle.rowfile.specs.Faults.{No-number, Some};
+ghost use Rattle.rowfile.specs.Judging.{Judged, Judged-row, Named, Reads-numbers, Recorded, Writes-all};
 ghost use Rattle.rowfile.specs.Files.{side-word};
 ghost use Rattle.rowfile.specs.Lines.{behind};
 ghost use Rattle.std.specs.Results.{Cases};

@@ -1,5 +1,5 @@
 // The text of a file, written into memory that the caller hands over.
-ghost use Prim.Native.Nat.{_+_, _<_, _≤_, _^_, min};
+ghost use Prim.Native.Nat.{_+_, _<_, _^_, min};
 ghost use Rattle.exchange.specs.declared.refusal.Refusal.the-variants.{NoElement};
 ghost use Rattle.rowfile.specs.Faults.{Breaks};
 ghost use Rattle.rowfile.specs.Files.{Keeps-line, Keeps-lines, name-word, parameters, rowed, side-word, text-of, written};
@@ -11,7 +11,7 @@ ghost use Rattle.std.specs.Results.{Cases};
 ghost use Rattle.std.specs.Written.{decimal};
 ghost use Rattle.std.specs.shelf.Lists.{All};
 ghost use lib.ListN.{length};
-ghost use mathlib.Core.List.{[], _++_, _∷_, map as each};
+ghost use mathlib.Core.List.{[], _∷_, map as each};
 ghost use mathlib.Core.Path.{_≡_};
 use crate::file::Command;
 use crate::file::Fault;

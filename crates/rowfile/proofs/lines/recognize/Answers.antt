@@ -1,9 +1,7 @@
-use mathlib.Core.Path.{_≡_, refl, sym, ap, subst, _∙_}
+use mathlib.Core.Path.{_≡_, sym, ap, subst, _∙_}
 use mathlib.Core.List.{_∷_}
 use borrow.Author.Needs.{needs}
-use native.Mathlib.Omega.{arith}
-use lib.ListN.{take, drop}
-use Rattle.std.proofs.shelf.Tests.{ltb-true, ltb-false}
+use lib.ListN.{drop}
 use Rattle.exchange.specs.declared.refusal.Refusal.the-variants.{BadForm}
 use Rattle.rowfile.specs.Lines.{behind, fields}
 use Rattle.rowfile.specs.Faults.{Ground}
