@@ -171,7 +171,18 @@ fn written() -> Result<(), Fail> {
     check_eq(refused(MapName::Cap, &[256], &[Command::Print], 20), (0, 0))?;
     check_eq(refused(MapName::Cap, &[256], &[Command::Print], 19), (0, 1))?;
     check_eq(refused(MapName::Phase { m: 0 }, &[0], &[], 0), (1, 4))?;
-    check_eq(refused(MapName::Cap, &[255], &[Command::Sweep(0)], 0), (2, 5))?;
+    check_eq(
+        refused(MapName::Cap, &[255], &[Command::Sweep(0)], 0),
+        (2, 5),
+    )?;
     check_eq(refused(MapName::Cap, &[0; 1025], &[], 0), (2, 6))?;
-    check_eq(refused(MapName::Cap, &[256], &[Command::Print, Command::Sweep(0)], 0), (4, 5))
+    check_eq(
+        refused(
+            MapName::Cap,
+            &[256],
+            &[Command::Print, Command::Sweep(0)],
+            0,
+        ),
+        (4, 5),
+    )
 }
