@@ -14,9 +14,9 @@ use Rattle.rowfile.specs.declared.file.Heading.{Heading}
 use Rattle.rowfile.specs.declared.file.Stage.{Stage}
 use Rattle.rowfile.specs.declared.file.Stage.the-variants.{Map, Row, Commands}
 
-abbrev pub Some : {X : Type 0} → (X → Type 0) → List X → Type 0
-Some P [] = ⊥
-Some P (x ∷ xs) = P x ⊎ Some P xs
+abbrev pub Any : {X : Type 0} → (X → Type 0) → List X → Type 0
+Any P [] = ⊥
+Any P (x ∷ xs) = P x ⊎ Any P xs
 
 -- the fields fs have the form of the line that says x: its words, and as many fields ns as it has numbers
 abbrev pub Form : (s : Stage) → List Bytes → Next s → List Bytes → Type 0
@@ -26,7 +26,7 @@ abbrev pub No-number : Bytes → Type 0
 No-number f = (n : ℕ) → Writes f n → ⊥
 
 abbrev pub No-code : Heading → List ℕ → Type 0
-No-code h ns = Some (λ n. has-code (h .map) n ≡ false) ns
+No-code h ns = Any (λ n. has-code (h .map) n ≡ false) ns
 
 -- which rule a line breaks that is right in form and numbers
 abbrev pub Breaks : (s : Stage) → Next s → Refusal → Type 0
@@ -37,7 +37,7 @@ Breaks (Commands h) c r = (r ≡ NoElement) × No-code h (swept c)
 -- why a line with the fields fs is faulty
 pub data Ground (s : Stage) (fs : List Bytes) : Refusal → Type 0 where
   no-form : ((x : Next s) (ns : List Bytes) → Form s fs x ns → ⊥) → Ground s fs BadForm
-  no-number : (x : Next s) (ns : List Bytes) → Form s fs x ns → Some No-number ns → Ground s fs BadNumber
+  no-number : (x : Next s) (ns : List Bytes) → Form s fs x ns → Any No-number ns → Ground s fs BadNumber
   no-rule : {r : Refusal} (x : Next s) → fs ≡ written s x → Small (numbers s x) → Breaks s x r → Ground s fs r
 
 -- whether a text may not end here

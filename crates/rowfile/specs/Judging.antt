@@ -24,11 +24,11 @@ use Rattle.rowfile.specs.declared.lines.LineError.{LineError}
 use Rattle.rowfile.specs.declared.lines.LineError.the-variants.{Refused, Memory}
 use Rattle.rowfile.specs.declared.file.Stage.{Stage}
 use Rattle.rowfile.specs.declared.file.Stage.the-variants.{Map, Row, Commands}
-use Rattle.rowfile.specs.Faults.{Some, No-number, Ground}
+use Rattle.rowfile.specs.Faults.{Any, No-number, Ground}
 
 -- n fields that are to be numbers: they are not n, or some is no number
 abbrev pub Misses : ℕ → List Bytes → Refusal → Type 0
-Misses n fs r = ((r ≡ BadForm) × (length fs ≡ n → ⊥)) ⊎ ((r ≡ BadNumber) × (length fs ≡ n) × Some No-number fs)
+Misses n fs r = ((r ≡ BadForm) × (length fs ≡ n → ⊥)) ⊎ ((r ≡ BadNumber) × (length fs ≡ n) × Any No-number fs)
 
 -- the n numbers that the fields write
 abbrev pub Reads-numbers : ℕ → List Bytes → Result (List ℕ) Refusal → Type 0
@@ -42,7 +42,7 @@ Writes-all fs n = (ns : List ℕ) × (fs ≡ map decimal ns) × Small ns × (len
 abbrev pub Misnamed : Bytes → List Bytes → Refusal → Type 0
 Misnamed w fs r =
     ((r ≡ BadForm) × ((m : MapName) → w ≡ name-word m → length fs ≡ length (parameters m) → ⊥))
-    ⊎ ((r ≡ BadNumber) × ((m : MapName) × (w ≡ name-word m) × (length fs ≡ length (parameters m)) × Some No-number fs))
+    ⊎ ((r ≡ BadNumber) × ((m : MapName) × (w ≡ name-word m) × (length fs ≡ length (parameters m)) × Any No-number fs))
 
 -- the map of a name with the parameters that the fields write, its own rule apart
 abbrev pub Named : Bytes → List Bytes → Result MapName Refusal → Type 0
