@@ -64,6 +64,13 @@ impl Filling {
 }
 
 impl Running {
+    // How many sweeps the log holds.
+    pub fn sweeps(&self) -> usize
+        ensures { λ r. ⌜ r ≡ now (self .entry) .sweeps ⌝ }
+    {
+        self.sweeps
+    }
+
     // Ends the bench and tells its boxes and sweeps.
     pub fn close(self) -> Closed
         ensures { λ r. ⌜ (r .boxes ≡ self .boxes) × (r .sweeps ≡ self .sweeps) ⌝ }

@@ -37,6 +37,7 @@ pub inverse-image : (x : List ℕ) (v : ℕ) → v < 8 → image (inverse x) v �
 inverse-image x v h = image-eight (place x) v h
 
 identity-image : (i : ℕ) → i < 8 → image identity i ≡ i
+unfolding eight
 identity-image i h = image-eight (λ i. i) i h
 
 pub group : Group perm-belongs product inverse identity
@@ -49,7 +50,7 @@ group = record {
   inv-belongs = λ x p.
       let P = perm x p in
       perm-held _ (perm-from (inverse x) (length-eight _) (image x) (small P) (λ v h. inverse-image x _ (small P v h) ∙ place-of P v h));
-  one-belongs = perm-held _ (perm-from identity (length-eight _) (λ v. v) (λ v h. h) identity-image);
+  one-belongs = perm-held _ (perm-from identity refl (λ v. v) (λ v h. h) identity-image);
   assoc = λ x y z p q r.
       let P = perm x p in
       same (length-eight _) (length-eight _) (λ i h. product-image (product x y) z i h ∙ (ap (image z) (product-image x y i h) ∙ sym (product-image x (product y z) i h ∙ product-image y z _ (small P i h))));
@@ -61,10 +62,10 @@ group = record {
       same (length-eight _) (P .long) (λ i h. product-image x identity i h ∙ identity-image _ (small P i h));
   inv-left = λ x p.
       let P = perm x p in
-      same (length-eight _) (length-eight _) (λ i h. product-image (inverse x) x i h ∙ (ap (image x) (inverse-image x i h) ∙ (image-of P i h ∙ sym (identity-image i h))));
+      same (length-eight _) refl (λ i h. product-image (inverse x) x i h ∙ (ap (image x) (inverse-image x i h) ∙ (image-of P i h ∙ sym (identity-image i h))));
   inv-right = λ x p.
       let P = perm x p in
-      same (length-eight _) (length-eight _) (λ i h. product-image x (inverse x) i h ∙ (inverse-image x _ (small P i h) ∙ (place-of P i h ∙ sym (identity-image i h))));
+      same (length-eight _) refl (λ i h. product-image x (inverse x) i h ∙ (inverse-image x _ (small P i h) ∙ (place-of P i h ∙ sym (identity-image i h))));
 }
 
 pub made-element : {x y : List ℕ} → x ≡ y → T (perm-belongs y) → T (perm-belongs x)

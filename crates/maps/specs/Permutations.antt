@@ -36,7 +36,7 @@ place [] v = 0
 place (w ∷ ws) v = cond (eqb w v) 0 (suc (place ws v))
 
 abbrev pub identity : List ℕ
-identity = eight (λ i. i)
+identity = 0 ∷ 1 ∷ 2 ∷ 3 ∷ 4 ∷ 5 ∷ 6 ∷ 7 ∷ []
 
 -- x first, then y
 abbrev pub product : List ℕ → List ℕ → List ℕ

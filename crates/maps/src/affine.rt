@@ -126,10 +126,8 @@ pub impl ExchangeMap for Affine as AffineMap {
         if !self.belongs(left) || !self.belongs(right) {
             return (left, right);
         }
-        (
-            self.f.at(self.modulus, right),
-            self.g.at(self.modulus, left),
-        )
+        let m = self.modulus;
+        (self.f.at(m, right), self.g.at(m, left))
     }
 
     fn uncross(&self, left: u32, right: u32) -> (u32, u32)
@@ -139,9 +137,7 @@ pub impl ExchangeMap for Affine as AffineMap {
         if !self.belongs(left) || !self.belongs(right) {
             return (left, right);
         }
-        (
-            self.g.back(self.modulus, right),
-            self.f.back(self.modulus, left),
-        )
+        let m = self.modulus;
+        (self.g.back(m, right), self.f.back(m, left))
     }
 }

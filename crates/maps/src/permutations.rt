@@ -9,6 +9,17 @@ use exchange::ExchangeMap;
 #[derive(Clone, Copy)]
 pub struct Permutations;
 
+fn is_permutation(x: [u8; 8]) -> bool
+    ensures { λ r. ⌜ r ≡ perm-belongs x ⌝ }
+{
+    for v in 0..8 {
+        if !x.contains(&v) {
+            return false;
+        }
+    }
+    true
+}
+
 // x first, then y.
 fn product(x: [u8; 8], y: [u8; 8]) -> [u8; 8]
     requires { ⌜ T (perm-belongs x) ⌝ ∗ ⌜ T (perm-belongs y) ⌝ }
@@ -83,12 +94,7 @@ pub impl ExchangeMap for Permutations as PermutationsMap {
     ghost meaning = { λ _. perm-map };
 
     fn belongs(&self, x: [u8; 8]) -> bool {
-        for v in 0..8 {
-            if !x.contains(&v) {
-                return false;
-            }
-        }
-        true
+        is_permutation(x)
     }
 
     fn kind(&self, _x: [u8; 8]) -> u8 {

@@ -114,6 +114,6 @@ pub impl ReturningMap for Phases as PhasesReturning {
         ensures returning { λ _. ⌜ Returning (phase-map (now (self .entry) .modulus)) ⌝ }
         ensures passage { λ r. ⌜ (let m = now (self .entry) .modulus in Pair (phase-elements m) left right → (left .kind ≡ right .kind → ⊥) → Passage m left right (r .0) (r .1)) ⌝ }
     {
-        self.cross(left, right)
+        self.uncross(left, right)
     }
 }

@@ -195,21 +195,23 @@ module _ {E : Type 0} {m : Meaning E} (l : Lawful m) (filled : List E) (v : View
   next (raise j) = raise-next j
 
 module _ {E : Type 0} {m : Meaning E} (l : Lawful m) (filled : List E) where
-  one-more : (calls : List (Said E)) (v : View E) (call : Call E) (h h′ : Held E) (a : Answer) → Book-run m filled calls (v .incoming) → Sound m filled v → Handed v h → Does m call h h′ a →
-      Book-run m filled ((call, lengths h, a) ∷ calls) (after v h′ .incoming) × Sound m filled (after v h′)
-  one-more calls v call h h′ a b s hd (Does.turned-away {r = r} f lv answer) =
+  -- a call is answered as the book answers it, and leaves what the book has
+  pub outcome : (v : View E) (call : Call E) (h h′ : Held E) (a : Answer) → Sound m filled v → Handed v h → Does m call h h′ a →
+      Outcome m filled (lengths h) call (v .incoming) (after v h′ .incoming) a × Sound m filled (after v h′)
+  outcome v call h h′ a s hd (Does.turned-away {r = r} f lv answer) =
       let same = after-unchanged v h h′ hd lv in
-      (Book-run.next b (Outcome.turned-away (refuses-too filled v s h hd call r f) (ap (λ (w : View E). w .incoming) same) answer), subst (Sound m filled) (sym same) s)
-  one-more calls v call h h′ a b s hd (Does.granted g d) =
+      (Outcome.turned-away (refuses-too filled v s h hd call r f) (ap (λ (w : View E). w .incoming) same) answer, subst (Sound m filled) (sym same) s)
+  outcome v call h h′ a s hd (Does.granted g d) =
       let n = next l filled v s h h′ hd call a g d in
       let g′ = subst (λ (w : View E). Grants m (counts-of w) (lengths h) w call) (is-book filled v s h hd) (grants-view filled v s h hd call g) in
-      (Book-run.next b (Outcome.granted g′ (n .0)), n .1)
+      (Outcome.granted g′ (n .0), n .1)
 
   pub run-sound : {calls : List (Said E)} {v : View E} → Run m filled calls v → Book-run m filled calls (v .incoming) × Sound m filled v
   run-sound Run.start = (Book-run.start, record { is-made = refl; carriers-belong = tt; filled-belongs = inl refl })
   run-sound (Run.next {calls = calls} {v = v} {call = call} {h = h} {h′ = h′} {a = a} r hd d) =
       let before = run-sound r in
-      one-more calls v call h h′ a (before .0) (before .1) hd d
+      let now = outcome v call h h′ a (before .1) hd d in
+      (Book-run.next (before .0) (now .0), now .1)
 
   pub promise : Promise m filled
   promise = record {

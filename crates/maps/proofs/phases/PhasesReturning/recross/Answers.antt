@@ -7,7 +7,7 @@ returns c =
     let s = c .args .self .now in
     let m = s .modulus in
     record {
-      value = c .cross .ensures;
+      value = c .uncross .ensures;
       returning = completed-returning (phase-sound m (s .bounded)) (phase-returns m);
-      passage = λ h n. cross-passage m (c .args .left) (c .args .right) _ h n (c .cross .ensures);
+      passage = λ h n. cross-passage m (c .args .left) (c .args .right) _ h n (c .uncross .ensures);
     }

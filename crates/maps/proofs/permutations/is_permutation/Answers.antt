@@ -7,7 +7,7 @@ use Rattle.std.proofs.shelf.Tests.{both-ways}
 use Rattle.maps.proofs.Arrays.{found, lacking}
 use Rattle.maps.proofs.Bounds.{holds}
 use Rattle.maps.proofs.Images.{perm-held, perm-of}
-use Rattle.maps.proofs.permutations.PermutationsMap.belongs.Needs as need
+use Rattle.maps.proofs.permutations.is_permutation.Needs as need
 
 pub returns-then-not-contains : need.returns-then-not-contains
 returns-then-not-contains c = sym (lacking (c .args .x) (c .loop-v .v-counter) (c .loop-v-test .taken) (λ h. both-ways (c .contains .result) (c .if-not-contains .taken) (has-from-contains (c .args .x) (c .loop-v .v-counter) _ (c .contains .ensures .cases) .1 h)))

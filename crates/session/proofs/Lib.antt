@@ -1,0 +1,5 @@
+pub mod Printing
+pub mod Stepping
+pub mod Running
+pub mod Filling
+pub mod Named
