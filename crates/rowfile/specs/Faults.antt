@@ -14,6 +14,7 @@ use Rattle.rowfile.specs.declared.file.Heading.{Heading}
 use Rattle.rowfile.specs.declared.file.Stage.{Stage}
 use Rattle.rowfile.specs.declared.file.Stage.the-variants.{Map, Row, Commands}
 
+-- some element has P
 abbrev pub Any : {X : Type 0} → (X → Type 0) → List X → Type 0
 Any P [] = ⊥
 Any P (x ∷ xs) = P x ⊎ Any P xs
@@ -22,9 +23,11 @@ Any P (x ∷ xs) = P x ⊎ Any P xs
 abbrev pub Form : (s : Stage) → List Bytes → Next s → List Bytes → Type 0
 Form s fs x ns = (fs ≡ words s x ++ ns) × (length ns ≡ length (numbers s x))
 
+-- the field writes no number
 abbrev pub No-number : Bytes → Type 0
 No-number f = (n : ℕ) → Writes f n → ⊥
 
+-- some number is no code of the map
 abbrev pub No-code : Heading → List ℕ → Type 0
 No-code h ns = Any (λ n. has-code (h .map) n ≡ false) ns
 
