@@ -46,6 +46,7 @@ impl Running {
         self.sweeps += 1;
         Ok(map.code(gone))
     }
+
     // Takes the newest sweep back, removes its entry, and answers the code of the carrier recovered.
     pub fn take_back<M: ExchangeMap>(
         &mut self,
@@ -154,6 +155,7 @@ fn recover<M: ExchangeMap>(
     if code == map.code(came) {
         return Ok(code);
     }
+
     // a sweep of the carrier recovered undoes the take-back
     let _ = sweep_row(map, row, back);
     Err(Refusal::WrongCarrier)

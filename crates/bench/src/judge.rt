@@ -46,6 +46,7 @@ impl Running {
         }
         Ok(())
     }
+
     // The rules that a take-back is held against before the carrier is known.
     pub(crate) fn judge_take_back<M: ExchangeMap>(
         &self,

@@ -7,7 +7,7 @@ use lib.Dec.{T, leb→le, le→leb}
 use Rattle.std.proofs.shelf.Tests.{cases-lt}
 use Rattle.exchange.proofs.Tests.{T-both, T-parts}
 use Rattle.maps.specs.declared.capacity.Holder.{Holder}
-use Rattle.maps.specs.Capacity.{carried, fits, holder, holders, rule}
+use Rattle.maps.specs.Capacity.{carried, fits, holder, holders, capacity-rule}
 use Rattle.exchange.specs.Laws.{Braids, Keeps}
 use Rattle.exchange.specs.Rules.{Numbers, Returns, Sound, Trades}
 
@@ -125,7 +125,7 @@ numbers = record {
   rest-belongs = tt;
 }
 
-pub sound : Sound rule
+pub sound : Sound capacity-rule
 sound = record {
   numbers = numbers;
   crosses = trades;
@@ -135,7 +135,7 @@ sound = record {
   braids = braids;
 }
 
-pub returns : Returns rule
+pub returns : Returns capacity-rule
 returns = record {
   twice = λ x y h. twice x y (fitting x (h .0)) (fitting y (h .1));
   alike = λ x y h. alike x y (fitting x (h .0)) (fitting y (h .1));

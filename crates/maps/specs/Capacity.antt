@@ -17,7 +17,7 @@ abbrev pub excess : ℕ → ℕ → ℕ
 excess s n = s - n
 
 -- A carrier (M, c) meets a box (L, b), s balls in all: p of them are too many for the box, q too many for the carrier.
--- The carrier leaves its c balls behind in the box but for those p, and takes the b of the box but for those q.
+-- The box gets the carrier's balls and those too many for the carrier, less those too many for itself, and the carrier the other way round.
 abbrev pub carried : Holder → Holder → Holder × Holder
 carried left right =
     let s : ℕ = right .balls + left .balls in
@@ -35,8 +35,8 @@ holders = record {
   rest = holder 1 0;
 }
 
-abbrev pub rule : Meaning Holder
-rule = record { elements = holders; cross = carried; uncross = carried }
+abbrev pub capacity-rule : Meaning Holder
+capacity-rule = record { elements = holders; cross = carried; uncross = carried }
 
 abbrev pub capacity-map : Meaning Holder
-capacity-map = completed rule
+capacity-map = completed capacity-rule

@@ -84,6 +84,6 @@ pub impl ExchangeMap for Capacity as CapacityMap {
 
 pub impl ReturningMap for Capacity as CapacityReturning {
     fn recross(&self, left: Holder, right: Holder) -> (Holder, Holder) {
-        self.cross(left, right)
+        self.uncross(left, right)
     }
 }

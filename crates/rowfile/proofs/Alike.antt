@@ -2,14 +2,14 @@
 use Prim.Native.Nat.{ℕ, _<_, _^_}
 use mathlib.Core.Path.{_≡_, refl, sym, ap, _∙_}
 use mathlib.Core.Bool.{cond}
-use mathlib.Core.List.{List, [], _∷_, _++_, map}
+use mathlib.Core.List.{List, [], _∷_, map}
 use native.Mathlib.Omega.{arith}
 use lib.Dec.{eqb}
 use lib.ListN.{getD}
 use Rattle.std.specs.Written.{decimal}
 use Rattle.std.proofs.shelf.Decimals.{same-from-decimal}
 use Rattle.rowfile.specs.Lines.{Bytes}
-use Rattle.rowfile.specs.Files.{Small, side-word, name-word, letter, parameters, argument, words, numbers, written, Next}
+use Rattle.rowfile.specs.Files.{Small, side-word, name-word, letter, parameters, argument, numbers, written, Next}
 use Rattle.rowfile.specs.declared.file.Side.{Side}
 use Rattle.rowfile.specs.declared.file.Side.the-variants.{Left, Right}
 use Rattle.rowfile.specs.declared.file.MapName.{MapName}

@@ -1,8 +1,8 @@
 -- A text has one verdict: one file, or one fault. Assumes nothing.
-use Prim.Native.Nat.{ℕ, suc, _+_, _<_, _≤_}
+use Prim.Native.Nat.{ℕ, suc, _<_}
 use mathlib.Core.Path.{_≡_, refl, sym, ap, subst, _∙_}
 use mathlib.Core.List.{List, [], _∷_, _++_, map}
-use mathlib.Core.Logic.{_⊎_, inl, inr}
+use mathlib.Core.Logic.{inl, inr}
 use native.Mathlib.Omega.{arith}
 use lib.ListN.{length, length-append}
 use Rattle.std.specs.shelf.Lists.{All}
@@ -89,8 +89,8 @@ same-said (rowed f) (rowed g) ls us k l a b m n e =
     let p = line-same Map h (g .heading) (k .0 .0) (l .0 .0) (cc) in
     let q = line-same (Row h) (f .codes) (g .codes) (k .1 .0) (l .1 .0) (cc) in
     let b2 = subst (λ i. Stuck (Commands i) us) (sym p) b in
-    let l2 = subst (λ i. All (Keeps-line (Commands i)) (g .commands)) (sym p) (l .2) in
-    let c = same-commands h ls us a b2 m n (f .commands) (g .commands) (k .2) l2 (cc) in
+    let lines2 = subst (λ i. All (Keeps-line (Commands i)) (g .commands)) (sym p) (l .2) in
+    let c = same-commands h ls us a b2 m n (f .commands) (g .commands) (k .2) lines2 (cc) in
     ap (λ (x : Heading). rowed (record { heading = x; codes = f .codes; commands = f .commands })) p
     ∙ (ap (λ (x : List ℕ). rowed (record { heading = g .heading; codes = x; commands = f .commands })) q
     ∙ ap (λ (x : List Command). rowed (record { heading = g .heading; codes = g .codes; commands = x })) c)

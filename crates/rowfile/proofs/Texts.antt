@@ -1,7 +1,7 @@
 -- One more line of a text. Assumes nothing.
 use Prim.Native.Nat.{ℕ, _+_, _-_, _<_, _≤_}
 use mathlib.Core.Path.{_≡_, refl, sym, ap, subst, _∙_}
-use mathlib.Core.List.{List, [], _∷_, _++_, map, append-assoc, map-append}
+use mathlib.Core.List.{List, [], _∷_, _++_, map, append-assoc}
 use native.Mathlib.Omega.{arith}
 use lib.ListN.{length, take, drop, length-drop}
 use Rattle.std.specs.Of.Vec.{vec-items}
@@ -13,10 +13,12 @@ use Rattle.exchange.specs.declared.refusal.Refusal.{Refusal}
 use Rattle.exchange.specs.declared.refusal.Refusal.the-variants.{BadForm}
 use Rattle.rowfile.specs.Lines.{Bytes, First, lines, fields, line-of}
 use Rattle.rowfile.specs.Files.{File, Said, nothing, headed, rowed, stage-of, written, lines-of, text-of, Keeps-line, Keeps-lines, Keeps}
-use Rattle.rowfile.specs.Faults.{Ground, Bad, Faulty, Unready, Unread}
+use Rattle.rowfile.specs.Faults.{Bad, Faulty, Unready}
+use Rattle.rowfile.specs.Judging.{Unread}
 use Rattle.rowfile.specs.Faults.Bad.{missing, unended, faulty}
 use Rattle.rowfile.specs.Faults.Faulty.{at-line}
-use Rattle.rowfile.specs.Reading.{Follows, Named, Ready, Refuses, Takes, place, said, so-far}
+use Rattle.rowfile.specs.Reading.{Refuses}
+use Rattle.rowfile.specs.Stepping.{Follows, Places, Ready, Takes, place, said, so-far}
 use Rattle.rowfile.specs.declared.file.Command.{Command}
 use Rattle.rowfile.specs.declared.file.Stage.{Stage}
 use Rattle.rowfile.specs.declared.lines.LineError.{LineError}
@@ -54,11 +56,11 @@ stage-so-far (Commands h) ns cs = refl
 
 -- one more line was read, or was not
 module _ (s t : Reader) (fs : List Bytes) (ready : Ready s) (n : ℕ) where
-  pub takes-ok : (r : Result (Unit {0}) LineError) (u : Unit {0}) → Takes s fs r t → Named n r (Ok u) → Follows (said s) fs (said t) × Ready t
+  pub takes-ok : (r : Result (Unit {0}) LineError) (u : Unit {0}) → Takes s fs r t → Places n r (Ok u) → Follows (said s) fs (said t) × Ready t
   takes-ok (Ok v) u h m = h ready
   takes-ok (Err e) u h m = absurd m
 
-  pub takes-err : (r : Result (Unit {0}) LineError) (p : Placed) → Takes s fs r t → Named n r (Err p) → (p .line ≡ n) × Unread (stage-of (said s)) fs (p .error)
+  pub takes-err : (r : Result (Unit {0}) LineError) (p : Placed) → Takes s fs r t → Places n r (Err p) → (p .line ≡ n) × Unread (stage-of (said s)) fs (p .error)
   takes-err (Ok v) p h m = absurd m
   takes-err (Err e) p h m =
       (m .0, subst (λ st. Unread st fs (p .error)) (sym (stage-so-far (s .stage) (vec-items (s .codes)) (vec-items (s .commands)))) (subst (Unread (s .stage) fs) (sym (m .1)) (h ready)))

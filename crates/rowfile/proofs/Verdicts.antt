@@ -1,12 +1,12 @@
 -- A line has one verdict: it keeps the rules or has one ground of refusal. Assumes nothing.
-use Prim.Native.Nat.{ℕ, _<_, _≤_, _^_}
-use mathlib.Core.Path.{_≡_, refl, sym, ap, subst, _∙_}
+use Prim.Native.Nat.{ℕ}
+use mathlib.Core.Path.{_≡_, refl, sym, subst, _∙_}
 use mathlib.Core.Bool.{Bool, true, false}
 use mathlib.Core.List.{List, [], _∷_, _++_, map}
-use mathlib.Core.Logic.{_⊎_, inl, inr, ⊎-elim}
+use mathlib.Core.Logic.{⊎-elim}
 use native.Mathlib.Omega.{arith}
 use lib.Dec.{T}
-use lib.ListN.{length, length-map}
+use lib.ListN.{length-map}
 use Rattle.std.specs.Written.{decimal}
 use Rattle.std.specs.shelf.Lists.{All}
 use Rattle.exchange.specs.declared.refusal.Refusal.{Refusal}
@@ -14,7 +14,7 @@ use Rattle.rowfile.specs.Lines.{Bytes}
 use Rattle.rowfile.specs.Files.{Next, Small, Codes, words, numbers, written, swept, Holds, File, rowed, Keeps-line, Keeps-lines}
 use Rattle.rowfile.specs.Writing.{Misfit}
 use Rattle.rowfile.specs.Writing.Misfit.{at-heading, at-row, at-command}
-use Rattle.rowfile.specs.Faults.{Some, Form, No-number, No-code, Breaks, Ground}
+use Rattle.rowfile.specs.Faults.{Any, Form, No-number, No-code, Breaks, Ground}
 use Rattle.rowfile.specs.Faults.Ground.{no-form, no-number, no-rule}
 use Rattle.rowfile.specs.Headings.{has-code}
 use Rattle.rowfile.specs.declared.file.Command.{Command}
@@ -25,7 +25,7 @@ use Rattle.rowfile.specs.declared.file.Stage.the-variants.{Map, Row, Commands}
 use Rattle.rowfile.proofs.Alike.{written-same}
 
 -- numbers that are written are numbers
-numbers-write : (ns : List ℕ) → Small ns → Some No-number (map decimal ns) → ⊥
+numbers-write : (ns : List ℕ) → Small ns → Any No-number (map decimal ns) → ⊥
 numbers-write [] s h = h
 numbers-write (n ∷ ns) s h = ⊎-elim (λ f. f n (s .0, refl)) (λ g. numbers-write ns (s .1) g) h
 
@@ -39,8 +39,8 @@ own-form : (s : Stage) (x : Next s) → Form s (written s x) x (map decimal (num
 own-form s x = (refl, length-map (numbers s x) decimal)
 
 -- a written line breaks neither form nor numbers
-not-misnumbered : (s : Stage) (x y : Next s) (ns : List Bytes) → Small (numbers s x) → Form s (written s x) y ns → Some No-number ns → ⊥
-not-misnumbered s x y ns m f h = numbers-write (numbers s x) m (subst (Some No-number) (sym (form-numbers s x y ns (f .0))) h)
+not-misnumbered : (s : Stage) (x y : Next s) (ns : List Bytes) → Small (numbers s x) → Form s (written s x) y ns → Any No-number ns → ⊥
+not-misnumbered s x y ns m f h = numbers-write (numbers s x) m (subst (Any No-number) (sym (form-numbers s x y ns (f .0))) h)
 
 not-both : (b : Bool) → T b → b ≡ false → ⊥
 not-both true t e = let z : _≡_ {A = ℕ} 0 1 = cc in omega arith

@@ -2,8 +2,8 @@
 use Prim.Native.Nat.{ℕ, _<_}
 use mathlib.Core.Path.{_≡_, refl, sym, ap, subst, _∙_}
 use mathlib.Core.Bool.{cond}
-use mathlib.Core.List.{List, [], _∷_, _++_, map}
-use mathlib.Core.Logic.{_⊎_, inl, inr, ⊎-elim}
+use mathlib.Core.List.{List, [], _∷_, map}
+use mathlib.Core.Logic.{inl, inr, ⊎-elim}
 use native.Mathlib.Omega.{arith}
 use lib.Chars.{codes as bytes}
 use lib.Dec.{eqb}
@@ -14,8 +14,9 @@ use Rattle.exchange.specs.declared.refusal.Refusal.{Refusal}
 use Rattle.exchange.specs.declared.refusal.Refusal.the-variants.{BadForm, BadNumber}
 use Rattle.rowfile.specs.Lines.{Bytes}
 use Rattle.rowfile.specs.Files.{Small, side-word, name-word, parameters, letter, argument}
-use Rattle.rowfile.specs.Faults.{Some, No-number, Misses, Misnamed, Ground}
-use Rattle.rowfile.specs.Faults.Ground.{no-form, no-number, no-rule}
+use Rattle.rowfile.specs.Faults.{Any, No-number, Ground}
+use Rattle.rowfile.specs.Judging.{Misses, Misnamed}
+use Rattle.rowfile.specs.Faults.Ground.{no-form, no-number}
 use Rattle.rowfile.specs.declared.file.Side.{Side}
 use Rattle.rowfile.specs.declared.file.MapName.{MapName}
 use Rattle.rowfile.specs.declared.file.MapName.the-variants.{Cap, Perm, Aff, Phase}
@@ -89,7 +90,7 @@ heading-misnamed s w n fs e q m =
     (λ k. subst (Ground Map (bytes "map" ∷ w ∷ n ∷ fs)) (sym (k .0)) (no-number (record { side = s; map = k .1 .0 }) fs (cc (q, k .1 .1), k .1 .2) (k .1 .3)))
     m
 
-pub row-misnumbered : (h : Heading) (fs : List Bytes) → Some No-number fs → Ground (Row h) (bytes "row" ∷ fs) BadNumber
+pub row-misnumbered : (h : Heading) (fs : List Bytes) → Any No-number fs → Ground (Row h) (bytes "row" ∷ fs) BadNumber
 row-misnumbered h fs some = no-number (replicate (length fs) 0) fs (refl, sym (length-replicate (length fs) 0)) some
 
 letter-length : (c : Command) → length (letter c) ≡ 1

@@ -5,3 +5,5 @@ pub mod Faults
 pub mod Reading
 pub mod Writing
 pub mod Copying
+pub mod Judging
+pub mod Stepping

@@ -8,10 +8,9 @@ use Rattle.std.specs.Results.{Cases}
 use Rattle.std.specs.Written.{decimal}
 use Rattle.std.specs.declared.result.Result.{Result}
 use Rattle.std.specs.shelf.Lists.{All}
-use Rattle.exchange.specs.declared.refusal.Refusal.{Refusal}
 use Rattle.exchange.specs.declared.refusal.Refusal.the-variants.{TooLong}
 use Rattle.rowfile.specs.Lines.{Bytes, line-of, ended}
-use Rattle.rowfile.specs.Files.{File, rowed, headed, written, letter, argument, text-of, Keeps-line, Keeps-lines, Keeps}
+use Rattle.rowfile.specs.Files.{File, rowed, letter, argument, text-of, Keeps-line, Keeps-lines, Keeps}
 use Rattle.rowfile.specs.Faults.{Breaks}
 use Rattle.rowfile.specs.declared.file.Command.{Command}
 use Rattle.rowfile.specs.declared.file.Fault.{Fault}
@@ -36,9 +35,6 @@ pub data Misfit (f : File) (e : Fault) : Type 0 where
   at-heading : e .line ≡ 1 → Breaks Map (f .heading) (e .refusal) → Misfit f e
   at-row : e .line ≡ 2 → Keeps-line Map (f .heading) → Breaks (Row (f .heading)) (f .codes) (e .refusal) → Misfit f e
   at-command : Keeps-line Map (f .heading) → Keeps-line (Row (f .heading)) (f .codes) → Strays (f .heading) (f .commands) e → Misfit f e
-
-abbrev pub Misfits : File → Fault → Type 0
-Misfits f e = Misfit f e
 
 -- memory with bytes written from a place on, as far as there is room
 abbrev pub laid : Bytes → ℕ → Bytes → Bytes

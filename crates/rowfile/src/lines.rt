@@ -1,6 +1,7 @@
 // What one line says, or why it is faulty.
 ghost use Rattle.exchange.specs.declared.refusal.Refusal.the-variants.{BadForm as FormRefused, BadNumber as NumberRefused};
-ghost use Rattle.rowfile.specs.Faults.{Judged, Judged-row, Named, No-number, Reads-numbers, Recorded, Some, Writes-all};
+ghost use Rattle.rowfile.specs.Faults.{No-number, Any};
+ghost use Rattle.rowfile.specs.Judging.{Judged, Judged-row, Named, Reads-numbers, Recorded, Writes-all};
 ghost use Rattle.rowfile.specs.Files.{side-word};
 ghost use Rattle.rowfile.specs.Lines.{behind};
 ghost use Rattle.std.specs.Results.{Cases};
@@ -231,7 +232,7 @@ pub fn command(heading: Heading, letter: char, fields: &[u8]) -> Result<Command,
 
 // How many numbers the fields write.
 fn count_numbers(fields: &[u8]) -> Result<usize, BadNumber>
-    ensures { λ r. ⌜ Cases r (λ n. Writes-all (behind 9 (now (fields .entry))) n) (λ _. Some No-number (behind 9 (now (fields .entry)))) ⌝ }
+    ensures { λ r. ⌜ Cases r (λ n. Writes-all (behind 9 (now (fields .entry))) n) (λ _. Any No-number (behind 9 (now (fields .entry)))) ⌝ }
 {
     let mut rest = fields;
     let mut count = 0;

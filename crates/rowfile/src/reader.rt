@@ -1,6 +1,7 @@
 // The text, line by line.
 ghost use Rattle.rowfile.specs.Lines.{fields};
-ghost use Rattle.rowfile.specs.Reading.{Accepts, Ends, Named, Reads, Rejects, Takes, placed};
+ghost use Rattle.rowfile.specs.Reading.{Accepts, Reads, Rejects};
+ghost use Rattle.rowfile.specs.Stepping.{Ends, Places, Takes, placed};
 ghost use mathlib.Core.Path.{_≡_};
 use crate::fields::until;
 use crate::file::Command;
@@ -46,7 +47,7 @@ impl From<Placed> for ReadError as ReadErrorFromPlaced {
 
 // Names the line of an error.
 fn at_line(line: u32, r: Result<(), LineError>) -> Result<(), Placed>
-    ensures { λ q. ⌜ Named line r q ⌝ }
+    ensures { λ q. ⌜ Places line r q ⌝ }
 {
     match r {
         Ok(()) => Ok(()),

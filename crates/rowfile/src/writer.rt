@@ -1,17 +1,17 @@
 // The text of a file, written into memory that the caller hands over.
-ghost use Prim.Native.Nat.{_+_, _<_, _≤_, _^_, min};
+ghost use Prim.Native.Nat.{_+_, _<_, _^_, min};
 ghost use Rattle.exchange.specs.declared.refusal.Refusal.the-variants.{NoElement};
 ghost use Rattle.rowfile.specs.Faults.{Breaks};
 ghost use Rattle.rowfile.specs.Files.{Keeps-line, Keeps-lines, name-word, parameters, rowed, side-word, text-of, written};
 ghost use Rattle.rowfile.specs.Lines.{led, line-of};
-ghost use Rattle.rowfile.specs.Writing.{Lays, Misfits, Strays, Writes-file, command-line, commands-text, filed};
+ghost use Rattle.rowfile.specs.Writing.{Lays, Misfit, Strays, Writes-file, command-line, commands-text, filed};
 ghost use Rattle.rowfile.specs.declared.file.Stage.the-variants.{Commands, Map, Row};
 ghost use Rattle.std.specs.Orderings.{When};
 ghost use Rattle.std.specs.Results.{Cases};
 ghost use Rattle.std.specs.Written.{decimal};
 ghost use Rattle.std.specs.shelf.Lists.{All};
 ghost use lib.ListN.{length};
-ghost use mathlib.Core.List.{[], _++_, _∷_, map as each};
+ghost use mathlib.Core.List.{[], _∷_, map as each};
 ghost use mathlib.Core.Path.{_≡_};
 use crate::file::Command;
 use crate::file::Fault;
@@ -73,7 +73,7 @@ fn check_commands(heading: Heading, commands: &[Command]) -> Result<(), Fault>
 
 // The first fault of a file by its rules, the length of its text apart.
 fn check(heading: Heading, codes: &[u32], commands: &[Command]) -> Result<(), Fault>
-    ensures { λ r. ⌜ Cases r (λ _. Keeps-lines (rowed (filed heading (now (codes .entry)) (now (commands .entry))))) (Misfits (filed heading (now (codes .entry)) (now (commands .entry)))) ⌝ }
+    ensures { λ r. ⌜ Cases r (λ _. Keeps-lines (rowed (filed heading (now (codes .entry)) (now (commands .entry))))) (Misfit (filed heading (now (codes .entry)) (now (commands .entry)))) ⌝ }
 {
     if !heading.map.parameters_hold() {
         return Err(Fault {

@@ -3,3 +3,4 @@ pub mod Stepping
 pub mod Running
 pub mod Filling
 pub mod Named
+pub mod Single

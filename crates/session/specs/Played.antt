@@ -107,3 +107,7 @@ Plays-file f out = Plays-named (f .heading .map) f out
 pub data Session (text out : Bytes) : Type 0 where
   played : (f : File) → Keeps f → text ≡ text-of f → Plays-file f out → Session text out
   faulty : (line : ℕ) (r : Refusal) → Faulty text line r → out ≡ printed (fault-fields line r) → Session text out
+
+-- a text prints one thing only
+abbrev pub One-session : Type 0
+One-session = (text out out′ : Bytes) → Session text out → Session text out′ → out ≡ out′

@@ -1,7 +1,7 @@
 // A row file played on the map that its heading names.
 ghost use Rattle.rowfile.specs.Files.{Keeps};
 ghost use Rattle.rowfile.specs.Reading.{file-of};
-ghost use Rattle.session.specs.Played.{Plays-file, Plays-on, Session, seen-from};
+ghost use Rattle.session.specs.Played.{One-session, Plays-file, Plays-on, Session, seen-from};
 ghost use Rattle.session.specs.Playing.{Rowed};
 ghost use Rattle.std.specs.Of.String.{string-bytes};
 ghost use Rattle.std.specs.Of.Vec.{vec-items};
@@ -38,7 +38,8 @@ use std::alloc::Global;
 
 // What the text of a row file prints: a line for each of its commands, or its first fault.
 pub fn play(heap: Global, text: &[u8]) -> Result<String, NoMemory>
-    ensures { λ r. ⌜ made r (λ s. Session (now (text .entry)) (string-bytes s)) ⌝ }
+    ensures lines { λ r. ⌜ made r (λ s. Session (now (text .entry)) (string-bytes s)) ⌝ }
+    ensures one { λ _. ⌜ One-session ⌝ }
 {
     match read(heap, text) {
         Ok(file) => play_file(heap, &file),

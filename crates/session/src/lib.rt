@@ -4,6 +4,8 @@ mod commands;
 pub mod files;
 pub mod lines;
 pub mod raising;
+pub mod worked;
 
 pub use files::play;
 pub use lines::NoMemory;
+pub use worked::worked_examples_hold;

@@ -1,4 +1,4 @@
-use mathlib.Core.Path.{_≡_, refl, sym, ap, subst, _∙_}
+use mathlib.Core.Path.{refl}
 use mathlib.Core.Logic.{inl}
 use Rattle.std.proofs.shelf.Results.{err-from-errBy}
 use Rattle.rowfile.specs.Copying.{Copies}

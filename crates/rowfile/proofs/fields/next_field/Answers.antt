@@ -1,8 +1,7 @@
 use Prim.Native.Nat.{_-_, _<_}
-use mathlib.Core.Path.{_≡_, ap, sym, _∙_}
-use mathlib.Core.List.{_∷_}
+use mathlib.Core.Path.{ap}
 use native.Mathlib.Omega.{arith}
-use lib.ListN.{drop, take, getD, length, length-take, length-drop}
+use lib.ListN.{drop, take, length, length-take, length-drop}
 use Rattle.std.proofs.shelf.Tests.{ltb-true, ltb-false}
 use Rattle.rowfile.specs.Lines.{behind}
 use Rattle.rowfile.proofs.Numbers.{first-rest}

@@ -1,14 +1,12 @@
 use Prim.Native.Nat.{_+_}
-use mathlib.Core.Path.{_≡_, refl, sym, ap, subst, _∙_}
+use mathlib.Core.Path.{refl, ap, _∙_}
 use mathlib.Core.List.{[], _∷_, _++_, map}
-use mathlib.Core.Logic.{inl}
 use native.Mathlib.Omega.{arith}
-use lib.ListN.{length, length-append}
 use Rattle.std.specs.Written.{decimal}
 use Rattle.std.proofs.shelf.Lists.{append-nil, length-push}
 use Rattle.std.proofs.shelf.Results.{err-from-errBy}
 use Rattle.rowfile.specs.Lines.{behind}
-use Rattle.rowfile.specs.Faults.{Some, No-number}
+use Rattle.rowfile.specs.Faults.{No-number}
 use Rattle.rowfile.proofs.Somes.{some-at, one-more}
 use Rattle.rowfile.proofs.lines.count_numbers.Needs as need
 

@@ -1,13 +1,8 @@
-use mathlib.Core.Path.{_≡_, refl, sym, ap, subst, _∙_}
-use mathlib.Core.List.{[], _∷_}
+use mathlib.Core.Path.{refl, sym, ap}
 use native.Mathlib.Omega.{arith}
-use lib.Chars.{codes as bytes}
 use lib.ListN.{length}
 use Rattle.std.proofs.shelf.Results.{err-from-errBy}
-use Rattle.rowfile.specs.Lines.{behind}
-use Rattle.rowfile.specs.Faults.{Ground}
 use Rattle.rowfile.specs.Faults.Ground.{no-rule}
-use Rattle.rowfile.specs.declared.file.Stage.the-variants.{Map}
 use Rattle.rowfile.proofs.Words.{heading-short, heading-sideless, heading-misnamed}
 use Rattle.rowfile.proofs.lines.heading.Needs as need
 

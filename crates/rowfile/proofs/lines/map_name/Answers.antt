@@ -1,14 +1,13 @@
-use mathlib.Core.Path.{_≡_, refl, sym, ap, subst, _∙_}
-use mathlib.Core.List.{[], map}
+use mathlib.Core.Path.{ap, subst, _∙_}
+use mathlib.Core.List.{map}
 use native.Mathlib.Omega.{arith}
-use borrow.Author.Needs.{needs}
 use Rattle.std.specs.Written.{decimal}
 use Rattle.std.proofs.shelf.Equals.{text-from-reads}
 use Rattle.std.proofs.shelf.Lists.{nil-from-length}
 use Rattle.std.proofs.shelf.Results.{err-from-errBy}
 use Rattle.std.proofs.shelf.Tests.{ltb-true, ltb-false}
 use Rattle.rowfile.specs.Lines.{behind}
-use Rattle.rowfile.specs.Files.{Small, name-word}
+use Rattle.rowfile.specs.Files.{Small}
 use Rattle.rowfile.specs.declared.file.MapName.the-variants.{Cap, Perm, Aff, Phase}
 use Rattle.rowfile.proofs.Words.{misnamed, one, five}
 use Rattle.rowfile.proofs.lines.map_name.Needs as need

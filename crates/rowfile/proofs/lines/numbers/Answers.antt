@@ -1,15 +1,15 @@
-use Prim.Native.Nat.{_+_, _<_}
-use mathlib.Core.Path.{_≡_, refl, sym, ap, subst, _∙_}
-use mathlib.Core.List.{_∷_, _++_, map}
-use mathlib.Core.Logic.{inl, inr}
+use Prim.Native.Nat.{_<_}
+use mathlib.Core.Path.{_≡_, refl, ap, subst, _∙_}
+use mathlib.Core.List.{_++_, map}
+use mathlib.Core.Logic.{inr}
 use native.Mathlib.Omega.{arith}
-use lib.ListN.{length, take, set, length-replicate, length-set, length-append}
+use lib.ListN.{length, take, length-replicate, length-set}
 use Rattle.std.specs.Written.{decimal}
 use Rattle.std.proofs.shelf.Lists.{take-more-set, take-all, append-nil}
 use Rattle.std.proofs.shelf.Results.{err-from-errBy}
 use Rattle.rowfile.specs.Lines.{behind}
 use Rattle.rowfile.specs.Files.{Small}
-use Rattle.rowfile.specs.Faults.{Some, No-number}
+use Rattle.rowfile.specs.Faults.{No-number}
 use Rattle.rowfile.proofs.Somes.{some-at, one-more}
 use Rattle.rowfile.proofs.lines.numbers.Needs as need
 

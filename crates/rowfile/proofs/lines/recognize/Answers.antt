@@ -1,16 +1,13 @@
-use mathlib.Core.Path.{_≡_, refl, sym, ap, subst, _∙_}
+use mathlib.Core.Path.{_≡_, sym, ap, subst, _∙_}
 use mathlib.Core.List.{_∷_}
 use borrow.Author.Needs.{needs}
-use native.Mathlib.Omega.{arith}
-use lib.ListN.{take, drop}
-use Rattle.std.proofs.shelf.Tests.{ltb-true, ltb-false}
+use lib.ListN.{drop}
 use Rattle.exchange.specs.declared.refusal.Refusal.the-variants.{BadForm}
 use Rattle.rowfile.specs.Lines.{behind, fields}
 use Rattle.rowfile.specs.Faults.{Ground}
 use Rattle.rowfile.proofs.Parts.{parts-cut}
 use Rattle.rowfile.proofs.Words.{unfit}
 use Rattle.rowfile.proofs.lines.recognize.Needs as need
-use Rattle.rowfile.proofs.lines.recognize.Needs.{in-rest·by·in-Map··then-first-lt3, in-rest·by·in-Map··else-first-lt3·then-this-lt4·in-109··in-97··in-rest·, in-rest·by·in-Map··else-first-lt3·then-this-lt4·in-109··in-rest·, in-rest·by·in-Map··else-first-lt3·then-this-lt4·in-rest·, in-rest·by·in-Map··else-first-lt3·else-this-lt4, in-rest·by·in-Row··then-this-lt3, in-rest·by·in-Row··else-this-lt3·then-this-lt4-2·in-114··in-111··in-rest·, in-rest·by·in-Row··else-this-lt3·then-this-lt4-2·in-114··in-rest·, in-rest·by·in-Row··else-this-lt3·then-this-lt4-2·in-rest·, in-rest·by·in-Row··else-this-lt3·else-this-lt4-2, in-rest·by·in-Commands··then-this-lt1, in-rest·by·in-Commands··else-this-lt1·else-this-lt2}
 
 pub returns-in-rest : need.returns-in-rest
 returns-in-rest c =

@@ -1,6 +1,6 @@
 use mathlib.Core.Path.{_≡_, refl, sym, ap, subst, _∙_}
 use mathlib.Core.Bool.{false}
-use mathlib.Core.List.{[], _∷_, _++_, map}
+use mathlib.Core.List.{_∷_, _++_, map}
 use mathlib.Core.Logic.{inl, inr}
 use native.Mathlib.Omega.{arith}
 use lib.Chars.{codes as bytes}
@@ -13,7 +13,6 @@ use Rattle.std.proofs.shelf.Lists.{append-nil}
 use Rattle.std.proofs.shelf.Results.{err-from-errBy}
 use Rattle.rowfile.specs.Headings.{has-code}
 use Rattle.rowfile.specs.Lines.{behind}
-use Rattle.rowfile.specs.Files.{Small, Codes}
 use Rattle.rowfile.specs.Faults.{No-number}
 use Rattle.rowfile.specs.Faults.Ground.{no-rule}
 use Rattle.rowfile.proofs.Somes.{some-at, some-number, one-more}

@@ -1,9 +1,9 @@
-use Prim.Native.Nat.{_+_, _-_, _*_, _≤_, _<_, _^_}
-use mathlib.Core.Path.{_≡_, ap, sym, subst, _∙_}
+use Prim.Native.Nat.{_+_, _*_, _<_, _^_}
+use mathlib.Core.Path.{_≡_, sym, subst, _∙_}
 use mathlib.Core.Bool.{true}
 use mathlib.Core.List.{_∷_}
 use native.Mathlib.Omega.{arith}
-use lib.ListN.{drop, getD, length}
+use lib.ListN.{drop}
 use Rattle.std.specs.shelf.Text.{allDigits}
 use Rattle.std.proofs.shelf.Lists.{at-drop-all}
 use Rattle.rowfile.specs.Lines.{Writes}

@@ -1,16 +1,17 @@
-use Prim.Native.Nat.{ℕ, _+_, _-_, _<_, _≤_}
-use mathlib.Core.Path.{_≡_, refl, sym, ap, subst, _∙_}
-use mathlib.Core.List.{_∷_, _++_, map}
+use Prim.Native.Nat.{ℕ, _+_}
+use mathlib.Core.Path.{sym, ap, subst, _∙_}
+use mathlib.Core.List.{_++_, map}
 use native.Mathlib.Omega.{arith}
-use lib.ListN.{length, take, drop, length-drop, length-append}
+use lib.ListN.{length, drop, length-drop}
 use Rattle.std.specs.Of.Vec.{vec-items}
 use Rattle.std.proofs.shelf.Lists.{take-rest, length-push}
 use Rattle.std.proofs.shelf.Results.{err-from-errBy, cases-weaker}
-use Rattle.rowfile.specs.Lines.{Bytes, First, lines, fields, line-of}
-use Rattle.rowfile.specs.Files.{lines-of, stage-of}
-use Rattle.rowfile.specs.Faults.{Unread, Unready}
+use Rattle.rowfile.specs.Lines.{Bytes, First, lines, line-of}
+use Rattle.rowfile.specs.Files.{lines-of}
+use Rattle.rowfile.specs.Faults.{Unready}
 use Rattle.rowfile.specs.Faults.Faulty.{too-long}
-use Rattle.rowfile.specs.Reading.{Reads, Accepts, Rejects, said, Refuses, placed, place, file-of}
+use Rattle.rowfile.specs.Reading.{Reads, Accepts, Rejects, Refuses, file-of}
+use Rattle.rowfile.specs.Stepping.{said, place}
 use Rattle.exchange.specs.declared.refusal.Refusal.{Refusal}
 use Rattle.exchange.specs.declared.refusal.Refusal.the-variants.{TooLong, BadForm}
 use Rattle.rowfile.specs.declared.file.ReadError.{ReadError}
@@ -19,7 +20,6 @@ use Rattle.rowfile.specs.declared.file.RowFile.{RowFile}
 use Rattle.std.specs.declared.result.Result.{Result}
 use Rattle.std.specs.declared.result.Result.the-variants.{Err}
 use Rattle.rowfile.proofs.Exact.{only-file, only-fault}
-use Rattle.rowfile.proofs.Parts.{next-line}
 use Rattle.rowfile.proofs.Texts.{stage-so-far, takes-ok, takes-err, line-at, unended-line, refused-line, missing-line, whole-file, more-lines, follows-keeps, follows-lines}
 use Rattle.rowfile.proofs.reader.read.Needs as need
 

@@ -4,7 +4,7 @@ use mathlib.Core.List.{map, _++_}
 use lib.ListN.{length, drop}
 use Rattle.rowfile.specs.Lines.{lines, line-of}
 use Rattle.rowfile.specs.Files.{lines-of, Keeps-lines}
-use Rattle.rowfile.specs.Reading.{said, Ready}
+use Rattle.rowfile.specs.Stepping.{said, Ready}
 use Rattle.rowfile.proofs.reader.read.Given as given
 
 -- the lines before the offset say what has been said, and keep the rules

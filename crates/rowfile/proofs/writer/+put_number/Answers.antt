@@ -1,13 +1,11 @@
 use Prim.Native.Nat.{_+_, _<_, _^_, _/_, _%_}
-use mathlib.Core.Path.{_≡_, sym, ap, subst, _∙_}
-use mathlib.Core.List.{[], _∷_}
+use mathlib.Core.Path.{ap, _∙_}
 use native.Mathlib.Omega.{arith}
 use borrow.Author.Needs.{needs}
-use lib.ListN.{length, length-append}
+use lib.ListN.{length}
 use Rattle.std.specs.Written.{decimal}
 use Rattle.std.proofs.shelf.Decimals.{decimal-step, decimal-some}
 use Rattle.std.proofs.shelf.Lists.{length-push}
-use Rattle.rowfile.specs.Writing.{Lays}
 use Rattle.rowfile.proofs.Laid.{lays-digit, lays-digits}
 use Rattle.rowfile.proofs.writer.+put_number.Needs as need
 use Rattle.rowfile.proofs.writer.+put_number.Needs.{then-n-lt10, else-n-lt10}

@@ -1,10 +1,10 @@
 use Prim.Native.Nat.{_+_, _<_, _^_}
-use mathlib.Core.Path.{_≡_, refl, sym, ap, subst, _∙_}
+use mathlib.Core.Path.{_≡_, refl, sym, subst}
 use mathlib.Core.Bool.{false}
 use mathlib.Core.Logic.{inr}
 use native.Mathlib.Omega.{arith}
 use lib.Dec.{T}
-use lib.ListN.{length, getD, take, drop}
+use lib.ListN.{getD, take, drop}
 use Rattle.std.proofs.shelf.Elements.{all-more, all-from-getD}
 use Rattle.std.proofs.shelf.Lists.{take-all}
 use Rattle.rowfile.specs.Headings.{has-code}

@@ -1,11 +1,10 @@
 use Prim.Native.Nat.{_+_}
-use mathlib.Core.Path.{_≡_, refl, ap}
-use mathlib.Core.List.{[], _∷_, _++_}
+use mathlib.Core.Path.{refl}
+use mathlib.Core.List.{[], _∷_}
 use native.Mathlib.Omega.{arith}
-use lib.ListN.{length, getD, drop, length-append}
+use lib.ListN.{drop}
 use Rattle.std.proofs.shelf.Lists.{at-drop-more, at-drop-all}
 use Rattle.rowfile.specs.Writing.{command-line, commands-text}
-use Rattle.rowfile.specs.declared.file.Command.the-variants.{Print}
 use Rattle.rowfile.proofs.Laid.{left-step, left-end}
 use Rattle.rowfile.proofs.writer.put_commands.Needs as need
 

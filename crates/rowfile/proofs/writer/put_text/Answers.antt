@@ -1,6 +1,6 @@
 use Prim.Native.Nat.{_<_, _^_}
 use mathlib.Core.Path.{sym, subst}
-use mathlib.Core.List.{[], _∷_, _++_, map}
+use mathlib.Core.List.{[], _∷_, map}
 use native.Mathlib.Omega.{arith}
 use lib.Chars.{codes as bytes}
 use lib.ListN.{length}

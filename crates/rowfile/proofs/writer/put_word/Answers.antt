@@ -1,8 +1,7 @@
 use Prim.Native.Nat.{_+_}
-use mathlib.Core.Path.{_≡_, refl, sym, ap, subst, _∙_}
-use mathlib.Core.List.{[], _∷_, _++_}
+use mathlib.Core.List.{[], _∷_}
 use native.Mathlib.Omega.{arith}
-use lib.ListN.{length, getD, drop, length-drop}
+use lib.ListN.{getD, drop, length-drop}
 use Rattle.std.proofs.shelf.Lists.{drop-more, drop-all}
 use Rattle.rowfile.proofs.Laid.{left-step, left-end}
 use Rattle.rowfile.proofs.writer.put_word.Needs as need

@@ -1,8 +1,8 @@
 use mathlib.Core.Path.{refl}
 use mathlib.Core.List.{[]}
-use mathlib.Core.Logic.{inl, inr}
+use mathlib.Core.Logic.{inl}
 use native.Mathlib.Omega.{arith}
-use Rattle.rowfile.specs.Writing.Unwritten.{misfit, no-room}
+use Rattle.rowfile.specs.Writing.Unwritten.{no-room}
 use Rattle.rowfile.specs.Writing.{filed}
 use Rattle.rowfile.proofs.Laid.{laid-file}
 use Rattle.rowfile.proofs.Bounds.{text-bounds}

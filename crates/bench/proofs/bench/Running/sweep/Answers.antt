@@ -33,7 +33,7 @@ pub returns : need.returns
 returns g c =
     let m = g .M·ExchangeMap .meaning (c .args .map .now) in
     let added = c .in-Continue-add .ensures tt .added .1 in
-    let run : (c .sweep-row-gone .last .row, c .sweep-row-gone .result) ≡ swept m (c .args .carrier) (take (c .args .self .now .boxes) (c .args .row .now)) = simp sub-zero at (c .sweep-row-gone .ensures) in
+    let run : (c .sweep-row-gone .last .row, c .sweep-row-gone .result) ≡ swept m (c .args .carrier) (take (c .args .self .now .boxes) (c .args .row .now)) = c .sweep-row-gone .ensures ∙ ap (λ n. swept m (c .args .carrier) (take n (c .args .row .now))) (sub-zero _) in
     granted (clear-all _ (c .in-Continue-judge-sweep .ensures tt)) (
       record {
         boxes-kept = refl;

@@ -1,4 +1,4 @@
-use mathlib.Core.Path.{_≡_, sym, ap, _∙_}
+use mathlib.Core.Path.{sym, ap, _∙_}
 use Rattle.maps.specs.Affine.{affine-map}
 use Rattle.maps.specs.Phases.{phase-map}
 use Rattle.rowfile.specs.Headings.{has-code}

@@ -1,4 +1,4 @@
-use mathlib.Core.Path.{_≡_, sym, ap, _∙_}
+use mathlib.Core.Path.{sym, ap, _∙_}
 use mathlib.Core.Logic.{⊎-elim}
 use Rattle.rowfile.specs.Headings.{lawful-parameters}
 use Rattle.rowfile.proofs.Named.{made-ok}
