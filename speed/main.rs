@@ -10,100 +10,31 @@ type Bench =
     unsafe extern "C" fn(*const u32, usize, *const u32, usize, *const u32, usize, u32) -> u32;
 type Read = unsafe extern "C" fn(*const u8, usize, u32) -> u32;
 
-#[link(name = "speed", kind = "static")]
-#[link(name = "rattle_c", kind = "static")]
-unsafe extern "C" {
-    fn rattle_cap_sweeps(
-        _: *const u32,
-        _: usize,
-        _: *const u32,
-        _: usize,
-        _: *const u32,
-        _: usize,
-        _: u32,
-    ) -> u32;
-    fn rattle_cap_exchanges(
-        _: *const u32,
-        _: usize,
-        _: *const u32,
-        _: usize,
-        _: *const u32,
-        _: usize,
-        _: u32,
-    ) -> u32;
-    fn rattle_cap_raises(
-        _: *const u32,
-        _: usize,
-        _: *const u32,
-        _: usize,
-        _: *const u32,
-        _: usize,
-        _: u32,
-    ) -> u32;
-    fn rattle_perm_sweeps(
-        _: *const u32,
-        _: usize,
-        _: *const u32,
-        _: usize,
-        _: *const u32,
-        _: usize,
-        _: u32,
-    ) -> u32;
-    fn rattle_perm_exchanges(
-        _: *const u32,
-        _: usize,
-        _: *const u32,
-        _: usize,
-        _: *const u32,
-        _: usize,
-        _: u32,
-    ) -> u32;
-    fn rattle_aff_sweeps(
-        _: *const u32,
-        _: usize,
-        _: *const u32,
-        _: usize,
-        _: *const u32,
-        _: usize,
-        _: u32,
-    ) -> u32;
-    fn rattle_aff_exchanges(
-        _: *const u32,
-        _: usize,
-        _: *const u32,
-        _: usize,
-        _: *const u32,
-        _: usize,
-        _: u32,
-    ) -> u32;
-    fn rattle_phase_sweeps(
-        _: *const u32,
-        _: usize,
-        _: *const u32,
-        _: usize,
-        _: *const u32,
-        _: usize,
-        _: u32,
-    ) -> u32;
-    fn rattle_phase_exchanges(
-        _: *const u32,
-        _: usize,
-        _: *const u32,
-        _: usize,
-        _: *const u32,
-        _: usize,
-        _: u32,
-    ) -> u32;
-    fn rattle_phase_raises(
-        _: *const u32,
-        _: usize,
-        _: *const u32,
-        _: usize,
-        _: *const u32,
-        _: usize,
-        _: u32,
-    ) -> u32;
-    fn rattle_read(text: *const u8, length: usize, rounds: u32) -> u32;
+// The exports of the proved side, all but the reader of one signature.
+macro_rules! proved {
+    ($($work:ident)*) => {
+        #[link(name = "speed", kind = "static")]
+        #[link(name = "rattle_c", kind = "static")]
+        unsafe extern "C" {
+            $(fn $work(
+                parameters: *const u32,
+                parameter_count: usize,
+                row: *const u32,
+                boxes: usize,
+                carriers: *const u32,
+                carrier_count: usize,
+                rounds: u32,
+            ) -> u32;)*
+            fn rattle_read(text: *const u8, length: usize, rounds: u32) -> u32;
+        }
+    };
+}
+
+proved! {
+    rattle_cap_sweeps rattle_cap_exchanges rattle_cap_raises
+    rattle_perm_sweeps rattle_perm_exchanges
+    rattle_aff_sweeps rattle_aff_exchanges
+    rattle_phase_sweeps rattle_phase_exchanges rattle_phase_raises
 }
 
 // A fixed sequence of numbers (xorshift).
