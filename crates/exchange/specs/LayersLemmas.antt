@@ -3,7 +3,7 @@ use Rattle.std.specs.Prelude.{◌≡◌, Bool, true, false, T, refl}
 use Rattle.std.proofs.Common.{sym, subst, ◌∙◌}
 use Rattle.std.proofs.Math.Path.{ap, fun_ext}
 use Rattle.exchange.specs.Meaning.{Elements, Exchange, Meaning}
-use Rattle.exchange.specs.Laws.{All, Braids, Exchanges, Lawful, Returning, first, last}
+use Rattle.exchange.specs.Laws.{Braids, Exchanges, Lawful, Returning, first, last}
 use Rattle.exchange.specs.Layers.{inverse, mirror, turned}
 use Rattle.exchange.specs.Triples.{first_belong, last_belong, first_undone, last_undone}
 

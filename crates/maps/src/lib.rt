@@ -1,5 +1,7 @@
 // The maps that the laboratory knows: capacity boxes, permutations, affine residues and phases.
 // Each is a rule on its elements, completed for all values, and proved lawful; a map's parameters are checked where the map is made.
+#![tactic(auto)]
+
 pub mod affine;
 pub mod capacity;
 pub mod permutations;

@@ -1,4 +1,6 @@
 // Reads a row file from standard input and writes it back, byte for byte; of a faulty text it prints `!`, the line and the number.
+#![tactic(auto)]
+
 use anyhow::anyhow;
 use rowfile::{Fault, ReadError, rewrite};
 use std::io::{Read, Write};

@@ -1,5 +1,7 @@
 // For measuring only: exported functions that drive the bench and the reader of row files many times over, for a Rust program to time.
 // What each call does is in the contracts of `bench` and `rowfile`. The answers' checksums are only compared with that program's, so nothing is said of them here; the exports apart, nothing here is open to others.
+#![tactic(auto)]
+
 use bench::{Closed, Filling, Running};
 use exchange::{ExchangeMap, Refusal, ReturningMap};
 use maps::{Affine, Capacity, Permutations, Phases};

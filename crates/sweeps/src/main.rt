@@ -1,4 +1,6 @@
 // `sweeps`: plays a row file from standard input and prints a line for each of its commands, or `!`, line and number where the text is faulty.
+#![tactic(auto)]
+
 use anyhow::anyhow;
 use session::{NoMemory, play};
 use std::io::Read;
