@@ -11,9 +11,9 @@ returns c =
     let y = c.args.y in
     let inv = inverse_same m l.slope l.inverse c.requires.turns in
     let k = y + (m - l.shift) in
-    let e = same_mul m l.inverse (k % m) k (same_mod m k) ∙ unline_is_back m l.slope l.shift l.inverse c.requires.shift-low inv y c.requires.y_low in
+    let e = same_mul m l.inverse (k % m) k (same_mod m k) ∙ unline_is_back m l.slope l.shift l.inverse c.requires.shift_low inv y c.requires.y_low in
     record {
       value = e;
-      low = subst (λ n. n < m) (sym e) (back_low m l.slope l.shift l.inverse c.requires.shift-low inv y c.requires.y_low);
-      found = ap (line m l.slope l.shift) e ∙ line_back m l.slope l.shift l.inverse c.requires.shift-low inv y c.requires.y_low;
+      low = subst (λ n. n < m) (sym e) (back_low m l.slope l.shift l.inverse c.requires.shift_low inv y c.requires.y_low);
+      found = ap (line m l.slope l.shift) e ∙ line_back m l.slope l.shift l.inverse c.requires.shift_low inv y c.requires.y_low;
     }
