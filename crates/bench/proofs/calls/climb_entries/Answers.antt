@@ -6,8 +6,8 @@ use Rattle.bench.proofs.calls.climb_entries.Goals as goal
 pub loop-i-init : goal.loop-i-init
 loop-i-init g c = ((refl, refl), refl, rising_start _ _ _ _, rising_start _ _ _ _)
 
-pub exchange-entries-requires : goal.exchange-entries-requires
-exchange-entries-requires g c =
+pub exchange_entries-requires : goal.exchange_entries-requires
+exchange_entries-requires g c =
     let came = c.loop-i.invariant.2.long in
     let went = c.loop-i.invariant.3.long in
     (omega arith, omega arith, omega arith)
@@ -19,8 +19,8 @@ loop-i-preserved g c =
     let inv = c.loop-i.invariant in
     let came = inv.2.long in
     let went = inv.3.long in
-    let lent = c.in-ok-exchange-entries.ensures.lent in
-    let moved = c.in-ok-exchange-entries.ensures.exchanged.0 in (
+    let lent = c.in_ok-exchange_entries.ensures.lent in
+    let moved = c.in_ok-exchange_entries.ensures.exchanged.0 in (
       (lent.0 ∙ inv.0.0, lent.1 ∙ inv.0.1),
       ap (λ (l : Entries _). l.count) moved ∙ inv.1,
       subst (λ (l : List _). Rising m n c.args.place (c.loop-i.i + 1) c.args.log.now.incoming.now l) (sym (ap (λ (l : Entries _). l.incoming) moved)) (rising_more m n c.args.place _ _ _ (omega arith) (omega arith) inv.2),

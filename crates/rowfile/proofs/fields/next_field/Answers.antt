@@ -13,6 +13,6 @@ returns c =
     let e = ap (behind 9) (first_rest xs p) in
     let f = parts_cut 9 ys c.until.result c.until.ensures in
     let l : length ys < length xs = simp (length-take, length-drop) (omega arith) in
-    let g = c.split-at.ensures.front in
-    let h = c.split-at.ensures.back in
-    (cc, omega (arith, c.split-at.ensures.back_len))
+    let g = c.split_at.ensures.front in
+    let h = c.split_at.ensures.back in
+    (cc, omega (arith, c.split_at.ensures.back_len))

@@ -9,14 +9,14 @@ use Rattle.rowfile.proofs.number.number.Goals as goal
 alone : (k : ℕ) (ks : List ℕ) → k ≡ 48 → length ks ≡ 0 → k ∷ ks ≡ 48 ∷ []
 alone k ks e z = let n = nil_from_length ks z in cc
 
-pub returns-in-default : goal.returns-in-default
-returns-in-default c = no_lead c.args.field.now (λ p l h. omega (arith, ltb-true, ltb-false)) (λ p e o. omega (arith, ltb-true, ltb-false))
+pub returns-in_default : goal.returns-in_default
+returns-in_default c = no_lead c.args.field.now (λ p l h. omega (arith, ltb-true, ltb-false)) (λ p e o. omega (arith, ltb-true, ltb-false))
 
 pub returns-in-48 : goal.returns-in-48
 returns-in-48 c =
     let xs = c.args.field.now in
     let p : 0 < length xs = omega (arith, ltb-true, ltb-false) in
-    let z : length (take (length xs - 1) (drop 1 xs)) ≡ 0 = eqb-true _ _ (sym c.if-is-empty.ensures) in
+    let z : length (take (length xs - 1) (drop 1 xs)) ≡ 0 = eqb-true _ _ (sym c.if-is_empty.ensures) in
     (omega arith, first_rest xs p ∙ (alone (get_or xs 0 0) (take (length xs - 1) (drop 1 xs)) c.in-48.is z ∙ sym (decimal_digit 0 (omega arith))))
 
 pub returns-in-49-to-57 : goal.returns-in-49-to-57
@@ -24,13 +24,13 @@ returns-in-49-to-57 c =
     let xs = c.args.field.now in
     let p : 0 < length xs = omega (arith, ltb-true, ltb-false) in
     let e : (48 + (get_or xs 0 0 - 48)) ∷ take (length xs - 1) (drop 1 xs) ≡ xs = ap (λ k. k ∷ take (length xs - 1) (drop 1 xs)) (omega arith) ∙ sym (first_rest xs p) in
-    subst (λ l. ReadsNumber l c.more-digits.result) e c.more-digits.ensures
+    subst (λ l. ReadsNumber l c.more_digits.result) e c.more_digits.ensures
 
-pub returns-in-default-first : goal.returns-in-default-first
-returns-in-default-first c = no_lead c.args.field.now (λ p l h. omega arith) (λ p e o. eqb-false _ 0 (sym c.if-is-empty.ensures) (simp (length-take, length-drop) (omega arith)))
+pub returns-in_default-first : goal.returns-in_default-first
+returns-in_default-first c = no_lead c.args.field.now (λ p l h. omega arith) (λ p e o. eqb-false _ 0 (sym c.if-is_empty.ensures) (simp (length-take, length-drop) (omega arith)))
 
-pub returns-in-default-first·2 : goal.returns-in-default-first·2
-returns-in-default-first·2 c = no_lead c.args.field.now (λ p l h. omega arith) (λ p e o. omega arith)
+pub returns-in_default-first·2 : goal.returns-in_default-first·2
+returns-in_default-first·2 c = no_lead c.args.field.now (λ p l h. omega arith) (λ p e o. omega arith)
 
-pub returns-in-default-first·3 : goal.returns-in-default-first·3
-returns-in-default-first·3 c = no_lead c.args.field.now (λ p l h. omega arith) (λ p e o. omega arith)
+pub returns-in_default-first·3 : goal.returns-in_default-first·3
+returns-in_default-first·3 c = no_lead c.args.field.now (λ p l h. omega arith) (λ p e o. omega arith)

@@ -7,25 +7,25 @@ use Rattle.rowfile.proofs.Bounds.{text_is, text_length}
 use Rattle.rowfile.proofs.Laid.{lays-five}
 use Rattle.rowfile.proofs.writer.put_text.Goals as goal
 
-pub put-word-at-requires : goal.put-word-at-requires
-put-word-at-requires c =
+pub put_word-at-requires : goal.put_word-at-requires
+put_word-at-requires c =
     let p : length (text_of (filed c.args.heading c.args.codes.now c.args.commands.now)) < 2 ^ 63 = c.requires in
-    omega (arith, c.put-heading-at.ensures.1, text_length c.args.heading c.args.codes.now c.args.commands.now)
+    omega (arith, c.put_heading-at.ensures.1, text_length c.args.heading c.args.codes.now c.args.commands.now)
 
-pub put-numbers-at-requires : goal.put-numbers-at-requires
-put-numbers-at-requires c =
+pub put_numbers-at-requires : goal.put_numbers-at-requires
+put_numbers-at-requires c =
     let p : length (text_of (filed c.args.heading c.args.codes.now c.args.commands.now)) < 2 ^ 63 = c.requires in
-    omega (arith, c.put-heading-at.ensures.1, c.put-word-at.ensures.1, text_length c.args.heading c.args.codes.now c.args.commands.now)
+    omega (arith, c.put_heading-at.ensures.1, c.put_word-at.ensures.1, text_length c.args.heading c.args.codes.now c.args.commands.now)
 
 pub put-at-requires : goal.put-at-requires
 put-at-requires c =
     let p : length (text_of (filed c.args.heading c.args.codes.now c.args.commands.now)) < 2 ^ 63 = c.requires in
-    omega (arith, c.put-heading-at.ensures.1, c.put-word-at.ensures.1, c.put-numbers-at.ensures.1, text_length c.args.heading c.args.codes.now c.args.commands.now)
+    omega (arith, c.put_heading-at.ensures.1, c.put_word-at.ensures.1, c.put_numbers-at.ensures.1, text_length c.args.heading c.args.codes.now c.args.commands.now)
 
-pub put-commands-requires : goal.put-commands-requires
-put-commands-requires c =
+pub put_commands-requires : goal.put_commands-requires
+put_commands-requires c =
     let p : length (text_of (filed c.args.heading c.args.codes.now c.args.commands.now)) < 2 ^ 63 = c.requires in
-    omega (arith, c.put-heading-at.ensures.1, c.put-word-at.ensures.1, c.put-numbers-at.ensures.1, c.put-at.ensures.1, text_length c.args.heading c.args.codes.now c.args.commands.now)
+    omega (arith, c.put_heading-at.ensures.1, c.put_word-at.ensures.1, c.put_numbers-at.ensures.1, c.put-at.ensures.1, text_length c.args.heading c.args.codes.now c.args.commands.now)
 
 pub returns : goal.returns
 returns c =
@@ -33,7 +33,7 @@ returns c =
     let ns = c.args.codes.now in
     let cs = c.args.commands.now in
     let l = lays-five c.args.out.now 0 (line_of (written Map h)) (bytes "\nrow") (led 9 (map decimal ns)) (10 ∷ []) (commands_text cs)
-    c.put-heading-at.new.out c.put-word-at.new.out c.put-numbers-at.new.out c.put-at.new.out c.put-commands.new.out
-    c.put-heading-at.result c.put-word-at.result c.put-numbers-at.result c.put-at.result c.put-commands.result
-    c.put-heading-at.ensures c.put-word-at.ensures c.put-numbers-at.ensures c.put-at.ensures c.put-commands.ensures in
-    subst (λ bs. Lays c.args.out.now 0 bs c.put-commands.new.out c.put-commands.result) (sym (text_is h ns cs)) l
+    c.put_heading-at.new.out c.put_word-at.new.out c.put_numbers-at.new.out c.put-at.new.out c.put_commands.new.out
+    c.put_heading-at.result c.put_word-at.result c.put_numbers-at.result c.put-at.result c.put_commands.result
+    c.put_heading-at.ensures c.put_word-at.ensures c.put_numbers-at.ensures c.put-at.ensures c.put_commands.ensures in
+    subst (λ bs. Lays c.args.out.now 0 bs c.put_commands.new.out c.put_commands.result) (sym (text_is h ns cs)) l

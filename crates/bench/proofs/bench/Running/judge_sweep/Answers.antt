@@ -10,17 +10,17 @@ returns-then-not-suffices g c = not_reaching _ _ _ c.if-not-suffices.ensures.1
 pub returns-then-self-incoming : goal.returns-then-self-incoming
 returns-then-self-incoming g c = (log_full c.if-self-incoming.true, reaching _ _ _ (c.if-not-suffices.ensures.0 tt))
 
-pub returns-then-not-all-belong : goal.returns-then-not-all-belong
-returns-then-not-all-belong g c = (stray (simp sub-zero at c.if-not-all-belong.ensures.1), not_full _ _ _ (c.if-not-suffices.ensures.0 tt) c.if-self-incoming.false)
+pub returns-then-not-all_belong : goal.returns-then-not-all_belong
+returns-then-not-all_belong g c = (stray (simp sub-zero at c.if-not-all_belong.ensures.1), not_full _ _ _ (c.if-not-suffices.ensures.0 tt) c.if-self-incoming.false)
 
 pub returns-then-not-belongs : goal.returns-then-not-belongs
 returns-then-not-belongs g c = (
   no_element (sym c.if-not-belongs.ensures),
-  nothing_stray _ _ _ (not_full _ _ _ (c.if-not-suffices.ensures.0 tt) c.if-self-incoming.false) (simp sub-zero at (c.if-not-all-belong.ensures.0 tt)),
+  nothing_stray _ _ _ (not_full _ _ _ (c.if-not-suffices.ensures.0 tt) c.if-self-incoming.false) (simp sub-zero at (c.if-not-all_belong.ensures.0 tt)),
 )
 
 pub returns : goal.returns
 returns g c =
     an_element _ _ _
-    (nothing_stray _ _ _ (not_full _ _ _ (c.if-not-suffices.ensures.0 tt) c.if-self-incoming.false) (simp sub-zero at (c.if-not-all-belong.ensures.0 tt)))
+    (nothing_stray _ _ _ (not_full _ _ _ (c.if-not-suffices.ensures.0 tt) c.if-self-incoming.false) (simp sub-zero at (c.if-not-all_belong.ensures.0 tt)))
     (sym c.if-not-belongs.ensures)

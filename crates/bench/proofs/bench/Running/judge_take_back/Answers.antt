@@ -11,16 +11,16 @@ returns-then-not-suffices g c = not_reaching _ _ _ c.if-not-suffices.ensures.1
 pub returns-then-self-eq0 : goal.returns-then-self-eq0
 returns-then-self-eq0 g c = (log_empty c.if-self-eq0.true, reaching _ _ _ (c.if-not-suffices.ensures.0 tt))
 
-pub returns-then-not-entry-belongs-all-belong : goal.returns-then-not-entry-belongs-all-belong
-returns-then-not-entry-belongs-all-belong g c =
+pub returns-then-not-entry_belongs-all_belong : goal.returns-then-not-entry_belongs-all_belong
+returns-then-not-entry_belongs-all_belong g c =
     let m = g.M.ExchangeMap.meaning c.args.map.now in
     let enough = c.if-not-suffices.ensures.0 tt in
-    let tells = newest_tells m c.args.incoming.now c.args.outgoing.now c.args.self.now.sweeps _ c.entry-belongs.result c.all-belong.result (omega arith) enough.2 (omega (arith, enough)) c.entry-belongs.ensures (simp sub-zero at c.all-belong.ensures) in
-    (stray (told_no _ tells c.if-not-entry-belongs-all-belong.true), not_empty _ _ enough c.if-self-eq0.false)
+    let tells = newest_tells m c.args.incoming.now c.args.outgoing.now c.args.self.now.sweeps _ c.entry_belongs.result c.all_belong.result (omega arith) enough.2 (omega (arith, enough)) c.entry_belongs.ensures (simp sub-zero at c.all_belong.ensures) in
+    (stray (told_no _ tells c.if-not-entry_belongs-all_belong.true), not_empty _ _ enough c.if-self-eq0.false)
 
 pub returns : goal.returns
 returns g c =
     let m = g.M.ExchangeMap.meaning c.args.map.now in
     let enough = c.if-not-suffices.ensures.0 tt in
-    let tells = newest_tells m c.args.incoming.now c.args.outgoing.now c.args.self.now.sweeps _ c.entry-belongs.result c.all-belong.result (omega arith) enough.2 (omega (arith, enough)) c.entry-belongs.ensures (simp sub-zero at c.all-belong.ensures) in
-    take_back_clear _ _ (nothing_stray _ _ _ (not_empty _ _ enough c.if-self-eq0.false) (told_yes _ tells c.if-not-entry-belongs-all-belong.false))
+    let tells = newest_tells m c.args.incoming.now c.args.outgoing.now c.args.self.now.sweeps _ c.entry_belongs.result c.all_belong.result (omega arith) enough.2 (omega (arith, enough)) c.entry_belongs.ensures (simp sub-zero at c.all_belong.ensures) in
+    take_back_clear _ _ (nothing_stray _ _ _ (not_empty _ _ enough c.if-self-eq0.false) (told_yes _ tells c.if-not-entry_belongs-all_belong.false))

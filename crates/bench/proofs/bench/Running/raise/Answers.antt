@@ -6,22 +6,22 @@ use Rattle.bench.proofs.Acting.{unchanged}
 use Rattle.bench.proofs.Climbing.{newest_within, raises}
 use Rattle.bench.proofs.bench.Running.raise.Goals as goal
 
-pub returns-in-err-place : goal.returns-in-err-place
-returns-in-err-place g c =
-    let p = err_from_is_err_and c.from-residual.result c.from-residual.ensures.1 in
-    rw (p.1, p.2) (unchanged c.in-err-place.ensures.judged)
+pub returns-in_err-place : goal.returns-in_err-place
+returns-in_err-place g c =
+    let p = err_from_is_err_and c.from_residual.result c.from_residual.ensures.1 in
+    rw (p.1, p.2) (unchanged c.in_err-place.ensures.judged)
 
-pub climb-entries-requires : goal.climb-entries-requires
-climb-entries-requires g c =
-    let p = c.in-ok-place.ensures.place in
+pub climb_entries-requires : goal.climb_entries-requires
+climb_entries-requires g c =
+    let p = c.in_ok-place.ensures.place in
     let w = newest_within _ _ _ _ _ p.0 p.2 in
     (omega arith, p.0, omega arith)
 
 pub returns : goal.returns
 returns g c =
-    let p = c.in-ok-place.ensures.place in
-    let up = c.in-ok-climb-entries.ensures.climbed in
-    granted (clear_all _ c.in-ok-place.ensures.judged) (
+    let p = c.in_ok-place.ensures.place in
+    let up = c.in_ok-climb_entries.ensures.climbed in
+    granted (clear_all _ c.in_ok-place.ensures.judged) (
       record {
         moves = _;
         raises = raises _ _ _ _ _ p.0 p.2;
@@ -33,8 +33,8 @@ returns g c =
           boxes_kept = refl;
           sweeps_left = refl;
           row_left = refl;
-          incoming_left = ◌∙◌ {b = c.climb-entries.new.log.incoming.now} (search rules) up.1.kept;
-          outgoing_left = ◌∙◌ {b = c.climb-entries.new.log.outgoing.now} (search rules) up.2.kept;
+          incoming_left = ◌∙◌ {b = c.climb_entries.new.log.incoming.now} (search rules) up.1.kept;
+          outgoing_left = ◌∙◌ {b = c.climb_entries.new.log.outgoing.now} (search rules) up.2.kept;
         };
       },
       refl,

@@ -10,25 +10,25 @@ use Rattle.runs.proofs.Rules.{clear_all}
 use Rattle.bench.proofs.Judging.{reached, room}
 use Rattle.bench.proofs.bench.Running.sweep.Goals as goal
 
-pub returns-in-err-judge-sweep : goal.returns-in-err-judge-sweep
-returns-in-err-judge-sweep g c =
-    let p = err_from_is_err_and c.from-residual.result c.from-residual.ensures.1 in
-    rw (p.1, p.2) (unchanged c.in-err-judge-sweep.ensures)
+pub returns-in_err-judge_sweep : goal.returns-in_err-judge_sweep
+returns-in_err-judge_sweep g c =
+    let p = err_from_is_err_and c.from_residual.result c.from_residual.ensures.1 in
+    rw (p.1, p.2) (unchanged c.in_err-judge_sweep.ensures)
 
-pub slice-bounds-sweep-row-end : goal.slice-bounds-sweep-row-end
-slice-bounds-sweep-row-end g c =
-    let h : c.args.self.now.boxes ≤ length c.args.row.now = (reached _ _ _ 6 (search rules) c.in-ok-judge-sweep.ensures).0 in
+pub slice_bounds-sweep_row-end : goal.slice_bounds-sweep_row-end
+slice_bounds-sweep_row-end g c =
+    let h : c.args.self.now.boxes ≤ length c.args.row.now = (reached _ _ _ 6 (search rules) c.in_ok-judge_sweep.ensures).0 in
     search rules
 
-pub returns-in-err-add : goal.returns-in-err-add
-returns-in-err-add g c = absurd (c.in-err-add.ensures.added.0 (room _ _ _ c.in-ok-judge-sweep.ensures))
+pub returns-in_err-add : goal.returns-in_err-add
+returns-in_err-add g c = absurd (c.in_err-add.ensures.added.0 (room _ _ _ c.in_ok-judge_sweep.ensures))
 
 pub returns : goal.returns
 returns g c =
     let m = g.M.ExchangeMap.meaning c.args.map.now in
-    let added = c.in-ok-add.ensures.added.1 in
-    let run : (c.sweep-row-gone.new.row, c.sweep-row-gone.result) ≡ swept m c.args.carrier (take c.args.self.now.boxes c.args.row.now) = c.sweep-row-gone.ensures ∙ ap (λ n. swept m c.args.carrier (take n c.args.row.now)) (sub-zero _) in
-    granted (clear_all _ c.in-ok-judge-sweep.ensures) (
+    let added = c.in_ok-add.ensures.added.1 in
+    let run : (c.sweep_row-gone.new.row, c.sweep_row-gone.result) ≡ swept m c.args.carrier (take c.args.self.now.boxes c.args.row.now) = c.sweep_row-gone.ensures ∙ ap (λ n. swept m c.args.carrier (take n c.args.row.now)) (sub-zero _) in
+    granted (clear_all _ c.in_ok-judge_sweep.ensures) (
       record {
         boxes_kept = refl;
         sweeps_left = add-one _;
