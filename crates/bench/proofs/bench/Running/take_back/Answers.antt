@@ -43,7 +43,7 @@ returns-in_err-code g c =
     let clear = c.in_ok-judge_take_back.ensures in
     let e = some_entry _ _ clear in
     let kept = c.in_ok-came.ensures.removed.2 in
-    let came = newest_read m c.args.incoming.now b.sweeps c.in_ok-came.branch e.0 e.1 (ap (λ p. p.0) c.in_ok-came.ensures.removed.1) in
+    let came = newest_read m c.args.incoming.now b.sweeps c.in_ok-came.came e.0 e.1 (ap (λ p. p.0) c.in_ok-came.ensures.removed.1) in
     let went = newest_read m c.args.outgoing.now b.sweeps c.in_ok-came.went e.0 e.2 (ap (λ p. p.1) c.in_ok-came.ensures.removed.1) in
     let wrong = simp sub-zero at c.in_err-code.ensures in
     let p = err_from_is_err_and c.from_residual-in_err-code.result c.from_residual-in_err-code.ensures.1 in
@@ -64,7 +64,7 @@ returns g c =
     let clear = c.in_ok-judge_take_back.ensures in
     let e = some_entry _ _ clear in
     let kept = c.in_ok-came.ensures.removed.2 in
-    let came = newest_read m c.args.incoming.now b.sweeps c.in_ok-came.branch e.0 e.1 (ap (λ p. p.0) c.in_ok-came.ensures.removed.1) in
+    let came = newest_read m c.args.incoming.now b.sweeps c.in_ok-came.came e.0 e.1 (ap (λ p. p.0) c.in_ok-came.ensures.removed.1) in
     let went = newest_read m c.args.outgoing.now b.sweeps c.in_ok-came.went e.0 e.2 (ap (λ p. p.1) c.in_ok-came.ensures.removed.1) in
     let right = simp sub-zero at c.in_ok-code.ensures in
     granted (clear_all _ (same_carrier _ _ clear (rw (came, went) right.0)))
