@@ -29,8 +29,8 @@ returns-in-49-to-57 c =
 pub returns-in_default-first : goal.returns-in_default-first
 returns-in_default-first c = no_lead c.args.field.now (λ p l h. omega arith) (λ p e o. eqb-false _ 0 (sym c.if-is_empty.ensures) (simp (length-take, length-drop) (omega arith)))
 
-pub returns-in_default-first·2 : goal.returns-in_default-first·2
-returns-in_default-first·2 c = no_lead c.args.field.now (λ p l h. omega arith) (λ p e o. omega arith)
+pub returns-in_default-first-2 : goal.returns-in_default-first-2
+returns-in_default-first-2 c = no_lead c.args.field.now (λ p l h. omega arith) (λ p e o. omega arith)
 
-pub returns-in_default-first·3 : goal.returns-in_default-first·3
-returns-in_default-first·3 c = no_lead c.args.field.now (λ p l h. omega arith) (λ p e o. omega arith)
+pub returns-in_default-first-3 : goal.returns-in_default-first-3
+returns-in_default-first-3 c = no_lead c.args.field.now (λ p l h. omega arith) (λ p e o. omega arith)
