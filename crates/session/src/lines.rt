@@ -5,7 +5,7 @@ ghost use Rattle.std.specs.Prelude.{◌≡◌, [], ◌∷◌, ◌++◌, string_b
 
 use exchange::{ExchangeMap, Refusal};
 use rowfile::Fault;
-use std::alloc::AllocFailed;
+use std::alloc::{AllocError, AllocFailed};
 use std::fmt;
 use std::fmt::Write;
 
@@ -15,6 +15,12 @@ pub struct NoMemory;
 
 impl From<fmt::Error> for NoMemory {
     fn from(_e: fmt::Error) -> NoMemory {
+        NoMemory
+    }
+}
+
+impl From<AllocError> for NoMemory {
+    fn from(_e: AllocError) -> NoMemory {
         NoMemory
     }
 }
