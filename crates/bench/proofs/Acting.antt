@@ -1,5 +1,5 @@
 -- What a call leaves of the memory that it was handed. Assumes nothing.
-use Rattle.std.proofs.Common.{◌≡◌, List, refl}
+use Rattle.std.proofs.Common.{refl}
 use Rattle.exchange.specs.Meaning.{Meaning}
 use Rattle.exchange.specs.declared.refusal.Refusal.{Refusal}
 use Rattle.runs.specs.Book.{Call, Refuses, refused}

@@ -1,5 +1,5 @@
 -- Lists of values that all belong. Assumes nothing.
-use Rattle.std.proofs.Common.{◌≡◌, ℕ, zero, suc, ◌+◌, ◌<◌, ◌≤◌, T, List, [], ◌∷◌, length, get_or, drop, sym, subst, le_of_suc-le-suc, not-suc-le-zero, add-one}
+use Rattle.std.proofs.Common.{◌≡◌, ℕ, zero, suc, ◌+◌, ◌<◌, ◌≤◌, T, List, [], ◌∷◌, length, get_or, drop, subst, le_of_suc-le-suc, not-suc-le-zero, add-one}
 use Rattle.exchange.specs.Meaning.{Meaning}
 use Rattle.runs.specs.Sweeps.{Belong}
 

@@ -1,5 +1,5 @@
 -- Exchanges upwards in the memory of a log, place after place. Assumes nothing.
-use Rattle.std.proofs.Common.{◌≡◌, ℕ, zero, suc, ◌+◌, ◌-◌, ◌<◌, ◌≤◌, List, ◌∷◌, ◌++◌, length, take, drop, sym, refl, ap, ◌∙◌, ap₂, add-one, arith, length-append, take-append-drop, length-take-le, take_at, drop_at}
+use Rattle.std.proofs.Common.{◌≡◌, ℕ, suc, ◌+◌, ◌-◌, ◌<◌, ◌≤◌, List, ◌∷◌, ◌++◌, length, take, drop, sym, refl, ap, ◌∙◌, ap₂, add-one, arith, length-append, take-append-drop, length-take-le, take_at, drop_at}
 use Rattle.exchange.specs.Meaning.{Meaning}
 use Rattle.runs.specs.Exchanges.{Raises, Turns, climb, exchanged}
 use Rattle.runs.proofs.Places.{length_exchanged}

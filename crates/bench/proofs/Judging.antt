@@ -2,9 +2,8 @@
 use Rattle.std.proofs.Common.{◌≡◌, ℕ, suc, ◌<◌, ◌≤◌, true, ◌⊎◌, length, inl, inr, ⊎_elim, arith}
 use Rattle.std.proofs.lemmas.Bool.{both_ways, cases_eq, cases_lt}
 use Rattle.exchange.specs.Meaning.{Meaning}
-use Rattle.exchange.specs.declared.refusal.Refusal.{Refusal}
 use Rattle.exchange.specs.declared.refusal.Refusal.TheVariants.{LogEmpty, LogFull, ShortMemory, Stray}
-use Rattle.runs.specs.Book.{Call, Ground, Refuses, exchange, log_empty, log_full, no_element, no_next_place, no_such_kind, raise, rank, read, sweep, take_back}
+use Rattle.runs.specs.Book.{Call, Ground, Refuses, exchange, log_empty, log_full, no_element, no_next_place, no_such_kind, raise, read, sweep, take_back}
 use Rattle.runs.specs.Book.{short_log, short_row, stray, uneven_log, wrong_carrier}
 use Rattle.runs.specs.Calls.{Held, counts, lengths, view}
 use Rattle.runs.specs.Exchanges.{Lacks, Way}

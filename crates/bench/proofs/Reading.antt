@@ -1,6 +1,5 @@
 -- What is read from the memory of a log, and what a test of it tells. Assumes nothing.
-use Rattle.std.proofs.Common.{◌≡◌, ℕ, zero, suc, ◌+◌, ◌-◌, ◌<◌, ◌≤◌, Bool, true, false, ◌&&◌, T, ◌↔◌, List, [], ◌∷◌, ◌++◌, length, get_or, take, drop, sym, refl, ap, ◌∙◌, subst, le_of_suc-le-suc, not-suc-le-zero, add-one, sub-one, arith, length-take-le, drop-cons, get_or-take}
-use native.Mathlib.Nat.{sub-zero}
+use Rattle.std.proofs.Common.{◌≡◌, ℕ, zero, suc, ◌+◌, ◌-◌, ◌<◌, ◌≤◌, Bool, true, false, ◌&&◌, T, ◌↔◌, List, [], ◌∷◌, ◌++◌, length, get_or, take, drop, sym, ap, ◌∙◌, subst, le_of_suc-le-suc, not-suc-le-zero, add-one, sub-one, arith, length-take-le, drop-cons, get_or-take}
 use Rattle.std.proofs.lemmas.List.{get_or_read}
 use Rattle.exchange.proofs.Tests.{T_both, T_parts}
 use Rattle.exchange.specs.Meaning.{Meaning}

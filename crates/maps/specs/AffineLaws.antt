@@ -4,7 +4,7 @@ use Rattle.std.proofs.Common.{sym, ap, subst, ◌∙◌, inl, inr, ⊎_elim, mod
 use Rattle.std.proofs.lemmas.Bool.{and_from, and_parts, cases_Bool, cases_eq, eq-eqb, eqb-true, lt-ltb, ltb-true}
 use Rattle.std.proofs.lemmas.Bool.Decides.{eqb_tells}
 use Rattle.exchange.specs.Rules.{Sound}
-use Rattle.maps.specs.Affine.{Commute, affine_elements, affine_parameters, affine_rule, back, coprime, inverts, line}
+use Rattle.maps.specs.Affine.{Commute, affine_parameters, affine_rule, back, coprime, inverts, line}
 use Rattle.maps.specs.Making.{is_modulus}
 use Rattle.maps.specs.Bounds.{held, holds, modulus_bounds}
 use Rattle.maps.specs.Residues.{Same, same_add, same_less, same_mod, same_mul}

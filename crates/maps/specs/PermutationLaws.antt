@@ -9,9 +9,9 @@ use Rattle.std.specs.List.{AllByRecursion as All}
 use Rattle.std.proofs.ByRecursion.{All-from_get_or}
 use Rattle.std.proofs.lemmas.List.{ext_get_or}
 use Rattle.std.proofs.lemmas.Bool.{and_from, and_parts, lt-ltb, ltb-true}
-use Rattle.exchange.specs.Laws.{Braids, Pair, first}
+use Rattle.exchange.specs.Laws.{Braids}
 use Rattle.exchange.specs.Rules.{Numbers, Sound}
-use Rattle.maps.specs.Permutations.{Conjugates, conjugate, eight, identity, image, images, inverse, perm_belongs, perm_code, perm_cross, perm_elements, perm_rule, perm_uncross, place, product, unconjugate}
+use Rattle.maps.specs.Permutations.{Conjugates, conjugate, eight, identity, image, images, inverse, perm_belongs, perm_code, perm_cross, perm_elements, perm_rule, place, product, unconjugate}
 use Rattle.maps.specs.Bounds.{held, holds}
 use Rattle.maps.specs.Conjugation.{Group, conj_belongs, conj_conj, conj_is, conj_only, unconj_belongs, unconj_is, unconj_only}
 use Rattle.maps.specs.Images.{Perm, image_of, perm, perm_from, perm_held, place_of, place_small, small}

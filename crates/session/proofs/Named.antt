@@ -1,5 +1,5 @@
 -- The rows of a file that keeps the rules are rows of the map that it names. Assumes nothing.
-use Rattle.std.proofs.Common.{◌≡◌, ℕ, ◌≤◌, Bool, T, List, length, subst}
+use Rattle.std.proofs.Common.{◌≡◌, ℕ, ◌≤◌, T, length, subst}
 use Rattle.std.proofs.ByRecursion.{All-weaker}
 use Rattle.std.specs.List.{AllByRecursion as All}
 use Rattle.exchange.proofs.Tests.{T_parts}

@@ -1,5 +1,5 @@
 -- A session after some of its commands. Assumes nothing.
-use Rattle.std.proofs.Common.{◌≡◌, ℕ, ◌+◌, ◌<◌, ◌≤◌, Bool, List, [], ◌∷◌, ◌++◌, length, get_or, take, drop, sym, refl, ap, ◌∙◌, subst, append_assoc, append-nil, arith}
+use Rattle.std.proofs.Common.{◌≡◌, ℕ, ◌+◌, ◌<◌, ◌≤◌, Bool, List, [], ◌++◌, length, get_or, take, drop, sym, refl, ap, ◌∙◌, subst, append_assoc, append-nil, arith}
 use Rattle.std.proofs.lemmas.List.{drop_all, drop_more, take_all}
 use Rattle.exchange.specs.Meaning.{Meaning}
 use Rattle.runs.specs.Book.{View}
@@ -7,7 +7,7 @@ use Rattle.runs.specs.Calls.{Held, view}
 use Rattle.runs.specs.Runs.{Run}
 use Rattle.rowfile.specs.Lines.{Bytes}
 use Rattle.rowfile.specs.declared.file.Command.{Command}
-use Rattle.session.specs.Played.{Plays, Says, printed}
+use Rattle.session.specs.Played.{Plays, printed}
 use Rattle.session.specs.Playing.{Playing, RunsOn, Steps}
 
 module _ {E : Type 0} (m : Meaning E) (returning : Bool) (commands : List Command) where

@@ -1,5 +1,5 @@
 -- A text prints one thing. Assumes nothing.
-use Rattle.std.proofs.Common.{◌≡◌, ℕ, Bool, true, false, List, [], ◌∷◌, ◌++◌, codes as bytes, sym, refl, ap, ◌∙◌, subst, ap₂}
+use Rattle.std.proofs.Common.{◌≡◌, ℕ, Bool, true, false, List, [], ◌∷◌, ◌++◌, codes as bytes, sym, ◌∙◌, subst, ap₂}
 use Rattle.exchange.specs.Meaning.{Meaning}
 use Rattle.maps.specs.Affine.{affine_map}
 use Rattle.maps.specs.Capacity.{capacity_map}
@@ -8,7 +8,6 @@ use Rattle.maps.specs.Phases.{phase_map}
 use Rattle.runs.specs.Book.{Answer, Call}
 use Rattle.runs.specs.Book
 use Rattle.runs.specs.Exchanges.{back, forth}
-use Rattle.runs.specs.Sweeps.{made}
 use Rattle.runs.proofs.Outcomes.{same_outcome}
 use Rattle.rowfile.specs.Files.{File}
 use Rattle.rowfile.specs.Lines.{Bytes}
@@ -17,7 +16,7 @@ use Rattle.rowfile.specs.declared.file.Command.TheVariants.{Sweep, Exchange, Exc
 use Rattle.rowfile.specs.declared.file.MapName.{MapName}
 use Rattle.rowfile.specs.declared.file.MapName.TheVariants.{Cap, Perm, Aff, Phase}
 use Rattle.rowfile.proofs.Exact.{no_fault, one_fault, one_text}
-use Rattle.session.specs.Played.{OneSession, Plays, PlaysNamed, Raised, Says, Session, Told, answer_fields, code_fields, fault_fields, faulty, played, printed, seen_from, session_lengths}
+use Rattle.session.specs.Played.{OneSession, Plays, PlaysNamed, Raised, Says, Told, answer_fields, code_fields, fault_fields, faulty, played, printed, seen_from, session_lengths}
 
 module _ {E : Type 0} (m : Meaning E) (filled : List E) where
   -- one list, one line

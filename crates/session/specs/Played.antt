@@ -18,7 +18,6 @@ use Rattle.rowfile.specs.Files.{File, Keeps, text_of}
 use Rattle.rowfile.specs.Lines.{Bytes, line_of}
 use Rattle.rowfile.specs.declared.file.Command.{Command}
 use Rattle.rowfile.specs.declared.file.Command.TheVariants.{Sweep, Exchange, ExchangeBack, Raise, TakeBack, Print}
-use Rattle.rowfile.specs.declared.file.Heading.{Heading}
 use Rattle.rowfile.specs.declared.file.MapName.{MapName}
 use Rattle.rowfile.specs.declared.file.MapName.TheVariants.{Cap, Perm, Aff, Phase}
 use Rattle.rowfile.specs.declared.file.Side.{Side}

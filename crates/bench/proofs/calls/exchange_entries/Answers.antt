@@ -1,5 +1,5 @@
-use Rattle.std.proofs.Common.{◌≡◌, ◌+◌, ◌<◌, ◌≢◌, List, length, get_or, set, sym, ap, ◌∙◌, subst, arith, get_or-set_other, get_or-set_same}
-use Rattle.runs.specs.Exchanges.{by, exchanged}
+use Rattle.std.proofs.Common.{◌+◌, ap, ◌∙◌, arith}
+use Rattle.runs.specs.Exchanges.{by}
 use Rattle.bench.specs.Bench.{way_of}
 use Rattle.bench.specs.Log.{Entries, written}
 use Rattle.bench.proofs.Exchanging.{two_reads, two_writes}

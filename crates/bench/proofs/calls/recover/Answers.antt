@@ -1,4 +1,4 @@
-use Rattle.std.proofs.Common.{List, sym, refl, ap, ◌∙◌}
+use Rattle.std.proofs.Common.{sym, refl, ap, ◌∙◌}
 use Rattle.runs.specs.Sweeps.{swept}
 use Rattle.runs.proofs.Sweeps.{take_back_undone}
 use Rattle.bench.proofs.calls.recover.Goals as goal

@@ -1,4 +1,4 @@
-use Rattle.std.proofs.Common.{Bool, T, sym, ap, ◌∙◌, subst, arith}
+use Rattle.std.proofs.Common.{T, sym, ap, ◌∙◌, subst}
 use Rattle.bench.proofs.Belonging.{belong_at, belong_more, belong_none}
 use Rattle.bench.proofs.walk.all_belong.Goals as goal
 

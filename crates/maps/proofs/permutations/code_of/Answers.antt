@@ -1,4 +1,4 @@
-use Rattle.std.proofs.Common.{◌≡◌, ◌-◌, drop, sym, ap, ◌∙◌, arith}
+use Rattle.std.proofs.Common.{◌≡◌, drop, sym, ap, ◌∙◌, arith}
 use Rattle.maps.proofs.Arrays.{weigh_more, weigh_none, weigh_room}
 use Rattle.maps.specs.Images.{perm}
 use Rattle.maps.specs.PermutationLaws.{code_weighs, weigh}

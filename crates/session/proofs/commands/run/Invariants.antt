@@ -1,4 +1,4 @@
-use Rattle.std.proofs.Common.{◌≡◌, string_bytes}
+use Rattle.std.proofs.Common.{string_bytes}
 use Rattle.bench.specs.Bench.{held}
 use Rattle.session.proofs.Running.{Midway}
 use Rattle.session.proofs.commands.run.Given as goal

@@ -1,4 +1,4 @@
-use Rattle.std.proofs.Common.{◌≤◌, ◌∷◌, length, codes as bytes, sym, refl, ap, subst, arith, rules}
+use Rattle.std.proofs.Common.{◌≤◌, ◌∷◌, length, codes as bytes, refl, ap, subst, arith, rules}
 use native.Mathlib.Nat.{sub-zero}
 use Rattle.std.proofs.lemmas.Result.{IfOk-weaker}
 use Rattle.runs.specs.Book.{exchange, sweep, take_back}

@@ -1,4 +1,4 @@
-use Rattle.std.proofs.Common.{ℕ, List, ◌∷◌, ◌++◌, map, string_bytes, decimal, sym, ap, ◌∙◌, append-nil, take_all}
+use Rattle.std.proofs.Common.{ℕ, List, ◌∷◌, ◌++◌, string_bytes, decimal, sym, ap, ◌∙◌, append-nil, take_all}
 use Rattle.rowfile.specs.Lines.{led}
 use Rattle.session.specs.Played.{code_fields}
 use Rattle.session.proofs.Printing.{grown, led_more}

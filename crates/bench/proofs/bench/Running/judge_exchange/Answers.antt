@@ -1,7 +1,7 @@
-use Rattle.std.proofs.Common.{suc, T, sym, subst, add-one, arith}
+use Rattle.std.proofs.Common.{arith}
 use Rattle.runs.specs.Book.{no_next_place, stray}
 use Rattle.bench.proofs.Judging.{exchange_clear, in_the_log, not_reaching, nothing_stray, reaching}
-use Rattle.bench.proofs.Reading.{both_tell, entries_tell, told_no, told_yes}
+use Rattle.bench.proofs.Reading.{entries_tell, told_no, told_yes}
 use Rattle.bench.proofs.bench.Running.judge_exchange.Goals as goal
 
 pub returns-then-not-suffices : goal.returns-then-not-suffices

@@ -1,10 +1,8 @@
-use Rattle.std.proofs.Common.{◌≡◌, ◌-◌, ◌<◌, ◌≤◌, T, List, ◌++◌, length, get_or, take, drop, sym, refl, ap, ◌∙◌, subst, arith, take-append-drop, rules}
+use Rattle.std.proofs.Common.{◌≤◌, T, List, ◌++◌, length, drop, refl, ap, ◌∙◌, subst, arith, take-append-drop, rules}
 use native.Mathlib.Nat.{sub-zero}
-use Rattle.std.proofs.lemmas.List.{get_or_read}
 use Rattle.std.proofs.lemmas.Result.{err_from_is_err_and}
-use Rattle.runs.specs.Book.{code, take_back, wrong_carrier}
+use Rattle.runs.specs.Book.{code, wrong_carrier}
 use Rattle.runs.specs.Calls.{granted, turned_away}
-use Rattle.runs.specs.Sweeps.{at, newest, taken}
 use Rattle.runs.proofs.Rules.{clear_all}
 use Rattle.bench.specs.Log.{Entries}
 use Rattle.bench.proofs.Acting.{unchanged}

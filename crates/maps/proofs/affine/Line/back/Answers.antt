@@ -1,4 +1,4 @@
-use Rattle.std.proofs.Common.{◌+◌, ◌-◌, ◌*◌, ◌%◌, ◌<◌, sym, ap, ◌∙◌, subst}
+use Rattle.std.proofs.Common.{◌+◌, ◌-◌, ◌%◌, ◌<◌, sym, ap, ◌∙◌, subst}
 use Rattle.maps.specs.Affine.{line}
 use Rattle.maps.specs.AffineLaws.{back_low, inverse_same, line_back, unline_is_back}
 use Rattle.maps.specs.Residues.{same_mod, same_mul}
