@@ -17,3 +17,11 @@ Copies t out r after =
     MatchResult r
     (λ n. (n ≡ length t) × (n ≤ length out) × (after ≡ t ++ drop n out))
     (λ e. (after ≡ out) × (Refuses t e ⊎ ((e ≡ Faulted (record { line = 0; refusal = TooLong })) × (length out < length t))))
+
+-- t is the text of a file that keeps the rules
+abbrev pub IsText : Bytes → Type 0
+IsText t = (f : File) × Keeps f × (t ≡ text_of f)
+
+-- what is written is the text of a file, and so is what the memory is too short for; any other text is refused as the reader refuses it
+abbrev pub OnlyTexts : Bytes → Result ℕ ReadError → Type 0
+OnlyTexts t r = MatchResult r (λ _. IsText t) (λ e. Refuses t e ⊎ IsText t)

@@ -1,5 +1,5 @@
 // A text read and written again.
-ghost use Rattle.rowfile.specs.Copying.{Copies, OneText};
+ghost use Rattle.rowfile.specs.Copying.{Copies, OneText, OnlyTexts};
 ghost use Rattle.rowfile.specs.declared.file.ReadError.TheVariants.{Fault as Faulted};
 ghost use Rattle.std.specs.Prelude.{◌≡◌};
 
@@ -20,6 +20,7 @@ impl From<Fault> for ReadError {
 pub fn rewrite(heap: Global, text: &[u8], out: &mut [u8]) -> Result<usize, ReadError>
     ensures copies { Copies text.now out.old result out.new }
     ensures one_text { OneText }
+    ensures only_texts { OnlyTexts text.now result }
 {
     let file = read(heap, text)?;
     Ok(write(file.heading, &file.codes, &file.commands, out)?)
