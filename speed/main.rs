@@ -14,7 +14,7 @@ type Read = unsafe extern "C" fn(*const u8, usize, u32) -> u32;
 macro_rules! proved {
     ($($work:ident)*) => {
         #[link(name = "speed", kind = "static")]
-        #[link(name = "rattle_c", kind = "static")]
+        #[link(name = "libc_c", kind = "static")]
         unsafe extern "C" {
             $(fn $work(
                 parameters: *const u32,

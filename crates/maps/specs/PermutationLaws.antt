@@ -5,7 +5,7 @@ use Rattle.std.proofs.Math.Path.{ap}
 use Rattle.std.proofs.Math.Nat.{div-div-eq-div-mul, pow-succ'}
 use native.Mathlib.Omega.{arith}
 use Rattle.std.proofs.lemmas.List.FromFn.{get_or-map-range_with_len}
-use Rattle.std.specs.List.{AllByRecursion as All}
+use Rattle.std.specs.List.{AllByRecursion}
 use Rattle.std.proofs.ByRecursion.{All-from_get_or}
 use Rattle.std.proofs.lemmas.List.{ext_get_or}
 use Rattle.std.proofs.lemmas.Bool.{and_from, and_parts, lt-ltb, ltb-true}
@@ -78,11 +78,11 @@ abbrev pub weigh : List ℕ → ℕ
 weigh [] = 0
 weigh (d ∷ ds) = d + 8 * weigh ds
 
-pub weigh_lt : (x : List ℕ) → All (λ d. d < 8) x → weigh x < 8 ^ length x
+pub weigh_lt : (x : List ℕ) → AllByRecursion (λ d. d < 8) x → weigh x < 8 ^ length x
 weigh_lt [] a = omega arith
 weigh_lt (d ∷ ds) a = omega (arith, pow-succ' 8 (length ds), weigh_lt ds a.1)
 
-digit_at : (x : List ℕ) (i : ℕ) → All (λ d. d < 8) x → i < length x → weigh x / 8 ^ i % 8 ≡ image x i
+digit_at : (x : List ℕ) (i : ℕ) → AllByRecursion (λ d. d < 8) x → i < length x → weigh x / 8 ^ i % 8 ≡ image x i
 digit_at [] i a h = absurd (omega arith)
 digit_at (d ∷ ds) zero a h = omega arith
 digit_at (d ∷ ds) (suc i) a h =
@@ -99,7 +99,7 @@ module _ {x : List ℕ} (p : Perm x) where
   unfolding eight
   code_weighs = let e : perm_code x ≡ weigh (eight (image x)) = omega arith in e ∙ ap weigh listed
 
-  pub digits : All (λ d. d < 8) x
+  pub digits : AllByRecursion (λ d. d < 8) x
   digits = All-from_get_or (λ d. d < 8) x 0 (λ i h. small p i (omega (arith, p.long)))
 
   pub weigh_small : weigh x < 8 ^ 8

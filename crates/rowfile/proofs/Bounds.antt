@@ -1,6 +1,6 @@
 -- How long numbers and lines are. Assumes nothing.
 use Rattle.std.proofs.Common.{◌≡◌, ℕ, ◌+◌, ◌*◌, ◌^◌, ◌<◌, ◌≤◌, List, [], ◌∷◌, ◌++◌, map, length, codes as bytes, decimal, refl, ap, arith, length-append}
-use Rattle.std.specs.List.{AllByRecursion as All}
+use Rattle.std.specs.List.{AllByRecursion}
 use Rattle.std.proofs.lemmas.Fmt.{length-decimal-le}
 use Rattle.rowfile.specs.Lines.{led, line_of, ended}
 use Rattle.rowfile.specs.Files.{Small, argument, side_word, name_word, parameters, written, text_of, rowed, KeepsLine, KeepsLines}
@@ -35,7 +35,7 @@ commands_are h [] = refl
 commands_are h (c ∷ cs) = ap (λ k. command_line c ++ (10 ∷ k)) (commands_are h cs)
 
 -- a command's line has at least one byte besides, and at most 12
-pub commands_bounds : (h : Heading) (cs : List Command) → All (KeepsLine (Commands h)) cs → (length cs ≤ length (commands_text cs)) × (length (commands_text cs) ≤ 13 * length cs)
+pub commands_bounds : (h : Heading) (cs : List Command) → AllByRecursion (KeepsLine (Commands h)) cs → (length cs ≤ length (commands_text cs)) × (length (commands_text cs) ≤ 13 * length cs)
 commands_bounds h [] k = (omega arith, omega arith)
 commands_bounds h (c ∷ cs) k =
     let p = commands_bounds h cs k.1 in

@@ -1,6 +1,6 @@
 -- A text has one verdict: one file, or one fault. Assumes nothing.
 use Rattle.std.proofs.Common.{◌≡◌, ℕ, suc, ◌<◌, List, [], ◌∷◌, ◌++◌, map, length, Ok, Err, Result, sym, refl, ap, ◌∙◌, subst, inl, inr, arith, length-append}
-use Rattle.std.specs.List.{AllByRecursion as All}
+use Rattle.std.specs.List.{AllByRecursion}
 use Rattle.std.proofs.lemmas.List.{append_cancel_left}
 use Rattle.exchange.specs.declared.refusal.Refusal.{Refusal}
 use Rattle.rowfile.specs.Lines.{Bytes, lines, fields, line_of}
@@ -52,7 +52,7 @@ command_lines : Heading → List Command → List Bytes
 command_lines h cs = map line_of (map (written (Commands h)) cs)
 
 module _ (h : Heading) (ls us : List Bytes) (a : Stuck (Commands h) ls) (b : Stuck (Commands h) us) (m : 0 < length ls) (n : 0 < length us) where
-  same_commands : (cs ds : List Command) → All (KeepsLine (Commands h)) cs → All (KeepsLine (Commands h)) ds → command_lines h cs ++ ls ≡ command_lines h ds ++ us → cs ≡ ds
+  same_commands : (cs ds : List Command) → AllByRecursion (KeepsLine (Commands h)) cs → AllByRecursion (KeepsLine (Commands h)) ds → command_lines h cs ++ ls ≡ command_lines h ds ++ us → cs ≡ ds
   unfolding Stuck command_lines
   same_commands [] [] k l e = refl
   same_commands [] (d ∷ ds) k l e = absurd (a d l.0 (command_lines h ds ++ us) (more (command_lines h ds) us n) e)
@@ -82,7 +82,7 @@ same_said (rowed f) (rowed g) ls us k l a b m n e =
     let p = line_same Map h g.heading k.0.0 l.0.0 (cc) in
     let q = line_same (Row h) f.codes g.codes k.1.0 l.1.0 (cc) in
     let b2 = subst (λ i. Stuck (Commands i) us) (sym p) b in
-    let lines2 = subst (λ i. All (KeepsLine (Commands i)) g.commands) (sym p) l.2 in
+    let lines2 = subst (λ i. AllByRecursion (KeepsLine (Commands i)) g.commands) (sym p) l.2 in
     let c = same_commands h ls us a b2 m n f.commands g.commands k.2 lines2 (cc) in
     ap (λ (x : Heading). rowed (record { heading = x; codes = f.codes; commands = f.commands })) p
     ∙ (ap (λ (x : List ℕ). rowed (record { heading = g.heading; codes = x; commands = f.commands })) q

@@ -1,7 +1,7 @@
 -- A line has one verdict: it keeps the rules or has one ground of refusal. Assumes nothing.
 use Rattle.std.proofs.Common.{◌≡◌, ℕ, Bool, true, false, T, List, [], ◌∷◌, ◌++◌, map, decimal, sym, refl, ◌∙◌, subst, ⊎_elim, arith}
 use lib.ListN.{length-map}
-use Rattle.std.specs.List.{AllByRecursion as All}
+use Rattle.std.specs.List.{AllByRecursion}
 use Rattle.exchange.specs.declared.refusal.Refusal.{Refusal}
 use Rattle.rowfile.specs.Lines.{Bytes}
 use Rattle.rowfile.specs.Files.{Next, Small, Codes, words, numbers, written, swept, Holds, File, rowed, KeepsLine, KeepsLines}
@@ -79,7 +79,7 @@ one_ground s fs r q (no_rule x e m b) (no_form g) = absurd (g x _ (ruled s fs x 
 one_ground s fs r q (no_rule x e m b) (no_number y ns g i) = absurd (not_misnumbered s x y ns m (sym e ∙ g.0, g.1) i)
 one_ground s fs r q (no_rule x e m b) (no_rule y d n c) = one_break s x r q b (subst (λ z. Breaks s z q) (sym (written_same s x y m n (sym e ∙ d))) c)
 
-kept_at : (h : Heading) (front later : List Command) (c : Command) → All (KeepsLine (Commands h)) (front ++ c ∷ later) → KeepsLine (Commands h) c
+kept_at : (h : Heading) (front later : List Command) (c : Command) → AllByRecursion (KeepsLine (Commands h)) (front ++ c ∷ later) → KeepsLine (Commands h) c
 kept_at h [] later c k = k.0
 kept_at h (d ∷ front) later c k = kept_at h front later c k.1
 
@@ -88,4 +88,4 @@ pub no_misfit : (f : File) (e : Fault) → KeepsLines (rowed f) → Misfit f e �
 no_misfit f e k (at_heading n b) = held Map f.heading e.refusal k.0.1 b
 no_misfit f e k (at_row n g b) = held (Row f.heading) f.codes e.refusal k.1.1 b
 no_misfit f e k (at_command g c s) =
-    held (Commands f.heading) s.1 e.refusal (kept_at f.heading s.0 s.2 s.1 (subst (All (KeepsLine (Commands f.heading))) s.3 k.2)).1 s.5
+    held (Commands f.heading) s.1 e.refusal (kept_at f.heading s.0 s.2 s.1 (subst (AllByRecursion (KeepsLine (Commands f.heading))) s.3 k.2)).1 s.5

@@ -1,6 +1,6 @@
 -- What the lines of a row file say, and the bytes that say it. Assumes nothing.
 use Rattle.std.specs.Prelude.{ℕ, ◌^◌, ◌<◌, ◌≤◌, T, List, [], ◌∷◌, ◌++◌, map, length, codes as bytes, decimal}
-use Rattle.std.specs.List.{AllByRecursion as All}
+use Rattle.std.specs.List.{AllByRecursion}
 use Rattle.rowfile.specs.Headings.{lawful_parameters, has_code}
 use Rattle.rowfile.specs.Lines.{Bytes, line_of, ended}
 use Rattle.rowfile.specs.declared.file.Side.{Side}
@@ -77,7 +77,7 @@ swept TakeBack = []
 swept Print = []
 
 abbrev pub Codes : Heading → List ℕ → Type 0
-Codes h ns = All (λ n. T (has_code h.map n)) ns
+Codes h ns = AllByRecursion (λ n. T (has_code h.map n)) ns
 
 -- the rules for parameters, the count of codes and codes
 abbrev pub Holds : (s : Stage) → Next s → Type 0
@@ -87,7 +87,7 @@ Holds (Commands h) c = Codes h (swept c)
 
 -- every number fits
 abbrev pub Small : List ℕ → Type 0
-Small ns = All (λ n. n < 2 ^ 32) ns
+Small ns = AllByRecursion (λ n. n < 2 ^ 32) ns
 
 -- what a line may say
 abbrev pub KeepsLine : (s : Stage) → Next s → Type 0
@@ -118,7 +118,7 @@ lines_of (rowed f) = written Map f.heading ∷ written (Row f.heading) f.codes �
 abbrev pub KeepsLines : Said → Type 0
 KeepsLines nothing = Unit {0}
 KeepsLines (headed h) = KeepsLine Map h
-KeepsLines (rowed f) = KeepsLine Map f.heading × KeepsLine (Row f.heading) f.codes × All (KeepsLine (Commands f.heading)) f.commands
+KeepsLines (rowed f) = KeepsLine Map f.heading × KeepsLine (Row f.heading) f.codes × AllByRecursion (KeepsLine (Commands f.heading)) f.commands
 
 -- the text of a file
 abbrev pub text_of : File → Bytes

@@ -1,6 +1,6 @@
 -- What the writer makes of a file. Assumes nothing.
 use Rattle.std.specs.Prelude.{◌≡◌, ℕ, ◌+◌, ◌<◌, ◌≤◌, min, ◌⊎◌, List, [], ◌∷◌, ◌++◌, map, length, drop, decimal, Result, MatchResult, slice_set}
-use Rattle.std.specs.List.{AllByRecursion as All}
+use Rattle.std.specs.List.{AllByRecursion}
 use Rattle.exchange.specs.declared.refusal.Refusal.TheVariants.{TooLong}
 use Rattle.rowfile.specs.Lines.{Bytes, line_of, ended}
 use Rattle.rowfile.specs.Files.{File, rowed, letter, argument, text_of, KeepsLine, KeepsLines, Keeps}
@@ -21,7 +21,7 @@ line_number place = min (place + 3) 4294967295
 abbrev pub Strays : Heading → List Command → Fault → Type 0
 Strays h cs e =
     (front : List Command) × (c : Command) × (later : List Command)
-    × (cs ≡ front ++ c ∷ later) × All (KeepsLine (Commands h)) front × Breaks (Commands h) c e.refusal × (e.line ≡ line_number (length front))
+    × (cs ≡ front ++ c ∷ later) × AllByRecursion (KeepsLine (Commands h)) front × Breaks (Commands h) c e.refusal × (e.line ≡ line_number (length front))
 
 -- the first line of a file that breaks a rule
 pub data Misfit (f : File) (e : Fault) : Type 0 where

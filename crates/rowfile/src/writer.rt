@@ -6,7 +6,7 @@ ghost use Rattle.rowfile.specs.Files.{KeepsLine, KeepsLines, name_word, paramete
 ghost use Rattle.rowfile.specs.Lines.{led, line_of};
 ghost use Rattle.rowfile.specs.Writing.{Lays, Misfit, Strays, WritesFile, command_line, commands_text, filed};
 ghost use Rattle.rowfile.specs.declared.file.Stage.TheVariants.{Commands, Map, Row};
-ghost use Rattle.std.specs.List.{AllByRecursion as All};
+ghost use Rattle.std.specs.List.{AllByRecursion};
 
 use crate::file::{Command, Fault, Heading, MapName, Side};
 use crate::lines::MAX_CODES;
@@ -49,7 +49,7 @@ fn command_line(place: usize) -> u32
 }
 
 fn check_commands(heading: Heading, commands: &[Command]) -> Result<(), Fault>
-    ensures { MatchResult result (λ _. All (KeepsLine (Commands heading)) commands.now) (Strays heading commands.now) }
+    ensures { MatchResult result (λ _. AllByRecursion (KeepsLine (Commands heading)) commands.now) (Strays heading commands.now) }
 {
     for (i, command) in commands.iter().enumerate() {
         if !holds(heading, *command) {

@@ -1,7 +1,7 @@
 -- The rows of a file that keeps the rules are rows of the map that it names. Assumes nothing.
 use Rattle.std.proofs.Common.{◌≡◌, ℕ, ◌≤◌, T, length, subst}
 use Rattle.std.proofs.ByRecursion.{All-weaker}
-use Rattle.std.specs.List.{AllByRecursion as All}
+use Rattle.std.specs.List.{AllByRecursion}
 use Rattle.exchange.proofs.Tests.{T_parts}
 use Rattle.maps.specs.Affine.{affine_map, affine_parameters}
 use Rattle.maps.specs.Capacity.{capacity_map}
@@ -15,8 +15,8 @@ use Rattle.rowfile.specs.declared.file.MapName.TheVariants.{Cap, Perm, Aff, Phas
 use Rattle.session.specs.Playing.{Rowed}
 
 module _ (f : File) (k : Keeps f) where
-  codes_of : (name : MapName) → f.heading.map ≡ name → All (λ n. T (has_code name n)) f.codes
-  codes_of name e = subst (λ (x : MapName). All (λ n. T (has_code x n)) f.codes) e k.0.1.1.1
+  codes_of : (name : MapName) → f.heading.map ≡ name → AllByRecursion (λ n. T (has_code name n)) f.codes
+  codes_of name e = subst (λ (x : MapName). AllByRecursion (λ n. T (has_code x n)) f.codes) e k.0.1.1.1
 
   few : length f.codes ≤ 1024
   few = k.0.1.1.0

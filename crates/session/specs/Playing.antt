@@ -1,6 +1,6 @@
 -- A session in the midst of its commands. Assumes nothing.
 use Rattle.std.specs.Prelude.{◌≡◌, ℕ, ◌≤◌, Bool, T, List, [], ◌++◌, map, length}
-use Rattle.std.specs.List.{AllByRecursion as All}
+use Rattle.std.specs.List.{AllByRecursion}
 use Rattle.exchange.specs.Meaning.{Meaning}
 use Rattle.runs.specs.Calls.{Held, view}
 use Rattle.runs.specs.Runs.{Run, Said}
@@ -33,7 +33,7 @@ RunsOn {E = E} m returning commands h out out' =
 
 -- codes that a row may have: each is one, and there are at most 1,024
 abbrev pub Rowed : {E : Type 0} → Meaning E → List ℕ → Type 0
-Rowed m codes = All (λ n. T (m.elements.codes n)) codes × (length codes ≤ 1024)
+Rowed m codes = AllByRecursion (λ n. T (m.elements.codes n)) codes × (length codes ≤ 1024)
 
 -- a row of as many places is filled with the elements of its codes
 abbrev pub Fills : {E : Type 0} → Meaning E → List ℕ → List E → Filling → List E → Type 0

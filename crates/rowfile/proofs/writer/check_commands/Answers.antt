@@ -1,5 +1,5 @@
 use Rattle.std.proofs.Common.{◌+◌, take, drop, sym, ap, ◌∙◌, subst, arith}
-use Rattle.std.specs.List.{AllByRecursion as All}
+use Rattle.std.specs.List.{AllByRecursion}
 use Rattle.std.proofs.ByRecursion.{All-more}
 use Rattle.std.proofs.lemmas.List.{take_all, length-take-le}
 use Rattle.rowfile.specs.Writing.{line_number}
@@ -19,4 +19,4 @@ pub loop-i-preserved : goal.loop-i-preserved
 loop-i-preserved c = All-more (KeepsLine (Commands c.args.heading)) c.args.commands.now c.loop-i.i _ c.loop-i-test.true c.loop-i.invariant c.if-not-holds.ensures
 
 pub returns : goal.returns
-returns c = subst (All (KeepsLine (Commands c.args.heading))) (take_all c.loop-i.i c.args.commands.now c.loop-i-test.false) c.loop-i.invariant
+returns c = subst (AllByRecursion (KeepsLine (Commands c.args.heading))) (take_all c.loop-i.i c.args.commands.now c.loop-i-test.false) c.loop-i.invariant
