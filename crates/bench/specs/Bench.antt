@@ -1,4 +1,4 @@
--- A running bench with the memory that a call is handed, and what its calls answer. Assumes nothing.
+-- Filling a row; a running bench with the memory that a call is handed, and what its calls answer. Assumes nothing.
 use Rattle.std.specs.Prelude.{◌≡◌, ℕ, ◌+◌, ◌<◌, ◌≤◌, false, T, ◌⊎◌, List, ◌∷◌, ◌++◌, length, Ok, Err, Result, slice_set}
 use Rattle.exchange.specs.Meaning.{Meaning}
 use Rattle.exchange.specs.declared.refusal.Refusal.{Refusal}

@@ -57,7 +57,7 @@ abbrev pub Raised : {E : Type 0} → Meaning E → Bool → List E → ℕ → L
 Raised m true filled k xs ys fs = Told m filled (bytes "N") (raise k) xs ys fs
 Raised m false filled k xs ys fs = (ys ≡ xs) × (fs ≡ refusal_fields NotReturning)
 
--- what a raise does to the memory: the bench's call, or nothing at all on a map that is not returning
+-- what a raise does to the memory: the bench's call where it is allowed, and else nothing at all
 abbrev pub Attempted : {E : Type 0} → Bool → Meaning E → ℕ → Held E → Held E → Answer → Type 0
 Attempted true m k h h' a = Does m (raise k) h h' a
 Attempted false m k h h' a = (h' ≡ h) × (a ≡ refused NotReturning)

@@ -26,7 +26,7 @@ Steps {E = E} m returning command h out h' out' =
     (filled xs : List E) → Playing m filled h xs →
     (ys : List E) × (fs : List Bytes) × Says m returning filled command xs ys fs × Playing m filled h' ys × (out' ≡ out ++ printed fs)
 
--- commands, from the first sweep on, write their lines
+-- commands, from an empty log on, write their lines
 abbrev pub RunsOn : {E : Type 0} → Meaning E → Bool → List Command → Held E → Bytes → Bytes → Type 0
 RunsOn {E = E} m returning commands h out out' =
     (filled : List E) → Playing m filled h [] → (lines : Bytes) × Plays m returning filled [] commands lines × (out' ≡ out ++ lines)
