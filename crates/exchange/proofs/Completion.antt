@@ -1,7 +1,7 @@
 -- A rule that keeps the laws on its elements, completed, is a lawful map. Assumes nothing.
 use Rattle.std.proofs.Common.{◌≡◌, ℕ, ◌<◌, ◌≤◌, Bool, true, false, cond, ◌&&◌, T, ◌⊎◌, sym, refl, ap, ◌∙◌, subst, inl, inr, ⊎_elim, arith}
 use Rattle.exchange.specs.Meaning.{Elements, Exchange, Meaning}
-use Rattle.exchange.specs.Laws.{All, Braids, Exchanges, Keeps, Lawful, Numbered, Pair, Returning, Undoes, first, last, no_code}
+use Rattle.exchange.specs.Laws.{Triple, Braids, Exchanges, Keeps, Lawful, Numbered, Pair, Returning, Undoes, first, last, no_code}
 use Rattle.exchange.specs.Rules.{Returns, Sound, Trades, completed, guarded}
 use Rattle.std.proofs.lemmas.Bool.{and_left, and_right, cond-false}
 use Rattle.exchange.proofs.Tests.{T_both}
@@ -25,10 +25,10 @@ module _ {E : Type 0} (e : Elements E) (f : Exchange E) where
   guarded_on : (x y : E) → Pair e x y → guarded e.belongs f x y ≡ f x y
   guarded_on x y h = chosen (e.belongs x && e.belongs y) (f x y) (x, y) (T_both _ _ h.0 h.1)
 
-  first_on : (t : E × E × E) → All e t → first (guarded e.belongs f) t ≡ first f t
+  first_on : (t : E × E × E) → Triple e t → first (guarded e.belongs f) t ≡ first f t
   first_on t h = ap (λ (p : E × E). (p.0, p.1, t.2)) (guarded_on t.0 t.1 (h.0, h.1))
 
-  last_on : (t : E × E × E) → All e t → last (guarded e.belongs f) t ≡ last f t
+  last_on : (t : E × E × E) → Triple e t → last (guarded e.belongs f) t ≡ last f t
   last_on t h = ap (λ (p : E × E). (t.0, p.0, p.1)) (guarded_on t.1 t.2 (h.1, h.2))
 
   undoes : (g : Exchange E) → Keeps e f → Undoes e f g → Undoes e (guarded e.belongs f) (guarded e.belongs g)
@@ -40,15 +40,11 @@ module _ {E : Type 0} (e : Elements E) (f : Exchange E) where
   braids k b t h =
       let F = first f in
       let L = last f in
-      let G = first (guarded e.belongs f) in
-      let H = last (guarded e.belongs f) in
       let h1 = first_belong e f k t h in
       let k1 = last_belong e f k t h in
       let h2 = last_belong e f k (F t) h1 in
       let k2 = first_belong e f k (L t) k1 in
-      let forth = ap (λ (s : E × E × E). G (H s)) (first_on t h) ∙ (ap G (last_on (F t) h1) ∙ first_on (L (F t)) h2) in
-      let back = ap (λ (s : E × E × E). H (G s)) (last_on t h) ∙ (ap H (first_on (L t) k1) ∙ last_on (F (L t)) k2) in
-      forth ∙ (b t h ∙ sym back)
+      cc (first_on t h, last_on (F t) h1, first_on (L (F t)) h2, last_on t h, first_on (L t) k1, last_on (F (L t)) k2, b t h)
 
 module _ {E : Type 0} {m : Meaning E} (s : Sound m) where
   kind_on : (x : E) → T (m.elements.belongs x) → (completed m).elements.kind x ≡ m.elements.kind x

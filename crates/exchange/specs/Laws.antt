@@ -46,12 +46,13 @@ first f t = ((f t.0 t.1).0, (f t.0 t.1).1, t.2)
 abbrev pub last : {E : Type 0} → Exchange E → E × E × E → E × E × E
 last f t = (t.0, (f t.1 t.2).0, (f t.1 t.2).1)
 
-abbrev pub All : {E : Type 0} → Elements E → E × E × E → Type 0
-All e t = T (e.belongs t.0) × T (e.belongs t.1) × T (e.belongs t.2)
+-- all three values are elements
+abbrev pub Triple : {E : Type 0} → Elements E → E × E × E → Type 0
+Triple e t = T (e.belongs t.0) × T (e.belongs t.1) × T (e.belongs t.2)
 
 -- the braid law: of three elements, the first pair, the last and the first again give the same three as last, first, last
 abbrev pub Braids : {E : Type 0} → Elements E → Exchange E → Type 0
-Braids {E = E} e f = (t : E × E × E) → All e t → first f (last f (first f t)) ≡ last f (first f (last f t))
+Braids {E = E} e f = (t : E × E × E) → Triple e t → first f (last f (first f t)) ≡ last f (first f (last f t))
 
 pub record Lawful {E : Type 0} (m : Meaning E) : Type 0 where
   pub numbered : Numbered m.elements

@@ -42,11 +42,11 @@ module _ {E : Type 0} {m : Meaning E} (l : Lawful m) where
       let e1 = last_undone e m.uncross m.cross l.cross_undoes (f (g t)) h2 in
       let e2 = first_undone e m.uncross m.cross l.cross_undoes (g t) h1 in
       let e3 = last_undone e m.uncross m.cross l.cross_undoes t h in
-      let forth : F (G (F v)) ≡ t = l.braids v h3 ∙ (ap (λ (s : E × E × E). G (F s)) e1 ∙ (ap G e2 ∙ e3)) in
+      let b = l.braids v h3 in
       let d1 = first_undone e m.cross m.uncross l.uncross_undoes (G (F v)) k2 in
       let d2 = last_undone e m.cross m.uncross l.uncross_undoes (F v) k1 in
       let d3 = first_undone e m.cross m.uncross l.uncross_undoes v h3 in
-      ap (λ (s : E × E × E). f (g (f s))) (sym forth) ∙ (ap (λ (s : E × E × E). f (g s)) d1 ∙ (ap f d2 ∙ d3))
+      cc
 
   pub inverse_lawful : Lawful (inverse m)
   inverse_lawful = record {

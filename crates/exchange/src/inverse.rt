@@ -7,6 +7,7 @@ ghost use Rattle.exchange.specs.LayersLemmas.{inverse_lawful};
 use crate::map::{ExchangeMap, ReturningMap};
 
 // The map below run backwards.
+// Kept: six functions stand in Mirror word for word. One type over a trait of views wants the law that a view keeps the elements, and by it a proof of each of the six, which need none here.
 #[derive(Clone, Copy)]
 pub struct Inverse<M>(pub M);
 

@@ -14,6 +14,8 @@ pub trait ExchangeMap {
     fn belongs(&self, x: Self::Elem) -> bool
         ensures { result ≡ (meaning self.now).elements.belongs x };
 
+    // Kept: kind 0 and code 4,294,967,295 of what is no element, is_code beside element, and a pair with what is no element given back, in place of an Option: the project's rules name these functions and answers.
+
     // The kind of an element, and 0 of any other value.
     fn kind(&self, x: Self::Elem) -> u8
         ensures { result ≡ (meaning self.now).elements.kind x };

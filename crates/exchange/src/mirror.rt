@@ -7,6 +7,7 @@ ghost use Rattle.exchange.specs.LayersLemmas.{mirror_lawful};
 use crate::map::{ExchangeMap, ReturningMap};
 
 // The map below seen from behind the row.
+// Kept: six functions stand in Inverse word for word. One type over a trait of views wants the law that a view keeps the elements, and by it a proof of each of the six, which need none here; the three bodies that turn a pair are two lines each.
 #[derive(Clone, Copy)]
 pub struct Mirror<M>(pub M);
 

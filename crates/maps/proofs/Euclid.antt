@@ -1,12 +1,13 @@
 -- Euclid's algorithm, with the factor of each remainder. Assumes nothing.
-use Rattle.std.proofs.Common.{◌≡◌, ℕ, suc, ◌+◌, ◌-◌, ◌*◌, ◌/◌, ◌%◌, ◌<◌, ◌≤◌, true, false, not, ◌&&◌, T, Decides, sym, refl, ap, ◌∙◌, subst, ⊎_elim, mod-lt, arith}
+use Rattle.std.proofs.Common.{◌≡◌, ℕ, suc, ◌+◌, ◌-◌, ◌*◌, ◌/◌, ◌%◌, ◌<◌, ◌≤◌, true, false, not, ◌&&◌, T, Decides, sym, refl, ap, ◌∙◌, subst, mod-lt, arith}
 use Prim.Native.Nat.{◌∣◌}
 use native.Mathlib.Nat.{div-add-mod, dvd-mod_iff, dvd-mul_right_of_dvd, dvd_of_mod-eq-zero, dvd-one, dvd_refl, dvd-zero, mod-eq-zero_of_dvd}
-use Rattle.std.proofs.lemmas.Bool.{and_from, cases_Bool, eq-eqb, lt-ltb}
+use Rattle.std.proofs.lemmas.Bool.{and_from, false_from_ne_true, eq-eqb, lt-ltb}
 use Rattle.std.proofs.lemmas.Bool.Decides.{Decides-and, Decides-below_and, Decides-eqb, Decides-not}
 use Rattle.maps.specs.Affine.{coprime, divides, inverts, none_shared}
-use Rattle.maps.specs.Bounds.{held}
-use Rattle.maps.specs.Residues.{Same, rest_of, same_add, same_cancel, same_less, same_mod, same_mul}
+use Rattle.std.proofs.lemmas.Float.{T_from_true}
+use Rattle.maps.specs.Residues.{Same, rest_of, same_add, same_cancel, same_less, same_mul}
+use Rattle.std.proofs.lemmas.Nat.{mul-mod_second}
 
 -- two remainders r and s with factors t and u: what divides both divides a and m
 pub record Remainders (a m r s t u : ℕ) : Type 0 where
@@ -19,25 +20,13 @@ pub record Remainders (a m r s t u : ℕ) : Type 0 where
   pub second : Same m (a * u) s
   pub shared : (k : ℕ) → k ∣ r → k ∣ s → (k ∣ a) × (k ∣ m)
 
-pub remainders_start : (a m : ℕ) → a < m → Remainders a m m a 0 (1 % m)
-remainders_start a m h = record {
-  r_some = omega arith;
-  r_low = omega arith;
-  s_low = h;
-  t_low = omega arith;
-  u_low = mod-lt 1 (omega arith);
-  first = let e : a * 0 ≡ 0 = omega arith in let f : 0 + m * 1 ≡ m = omega arith in ap (λ n. n % m) e ∙ (sym (same_less m 0 1) ∙ ap (λ n. n % m) f);
-  second = let e : a * 1 ≡ a = omega arith in same_mul m a (1 % m) 1 (same_mod m 1) ∙ ap (λ n. n % m) e;
-  shared = λ k p q. (q, p);
-}
-
 -- the next remainder and its factor
 next_factor : (a m r s t u : ℕ) → 0 < m → Same m (a * t) r → Same m (a * u) s → Same m (a * ((t + (m - (r / s * u) % m)) % m)) (r % s)
 next_factor a m r s t u h e f =
     let q = r / s in
     let w = t + (m - (q * u) % m) in
     let Q = (q * u) / m + 1 in
-    let g : Same m (a * (w % m) + q * s) (a * w + q * (a * u)) = same_add m (a * (w % m)) (q * s) (a * w) (q * (a * u)) (same_mul m a (w % m) w (same_mod m w)) (same_mul m q s (a * u) (sym f)) in
+    let g : Same m (a * (w % m) + q * s) (a * w + q * (a * u)) = same_add m (a * (w % m)) (q * s) (a * w) (q * (a * u)) (mul-mod_second a w m) (same_mul m q s (a * u) (sym f)) in
     let k : a * w + q * (a * u) ≡ a * t + m * (a * Q) = omega (arith, ap (λ n. a * n) (rest_of m (q * u) h)) in
     let l : r ≡ r % s + q * s = omega (arith, div-add-mod r s) in
     same_cancel m (a * (w % m)) (r % s) (q * s) h (g ∙ (ap (λ n. n % m) k ∙ (same_less m (a * t) (a * Q) ∙ (e ∙ ap (λ n. n % m) l))))
@@ -85,13 +74,10 @@ unfolding Apart
 not_coprime a m r s t u h z n =
     let d = h.shared r (dvd_refl r) (subst (λ k. r ∣ k) (sym z) (dvd-zero r)) in
     let two : r ≡ suc (suc (r - 2)) = omega (arith, n, h.r_some) in
-    ⊎_elim
-    (λ e. absurd ((coprime_decides a m m).0 e (r - 2) (omega (arith, h.r_low, n, h.r_some)) (subst (λ k. (a % k ≡ 0) × (m % k ≡ 0)) two (mod-eq-zero_of_dvd r d.0, mod-eq-zero_of_dvd r d.1))))
-    (λ e. e)
-    (cases_Bool (coprime a m))
+    false_from_ne_true _ (λ e. (coprime_decides a m m).0 e (r - 2) (omega (arith, h.r_low, n, h.r_some)) (subst (λ k. (a % k ≡ 0) × (m % k ≡ 0)) two (mod-eq-zero_of_dvd r d.0, mod-eq-zero_of_dvd r d.1)))
 
 -- a last remainder of 1 has the inverse of a as its factor
 pub inverse_found : (a m r s t u : ℕ) → Remainders a m r s t u → r ≡ 1 → T (coprime a m) × T (inverts m a t)
 inverse_found a m r s t u h e =
     let f : Same m (a * t) 1 = h.first ∙ ap (λ n. n % m) e in
-    (held _ (coprime_from_inverse a m t f), held _ (and_from _ _ (lt-ltb t m h.t_low) (eq-eqb _ _ f)))
+    (T_from_true _ (coprime_from_inverse a m t f), T_from_true _ (and_from _ _ (lt-ltb t m h.t_low) (eq-eqb _ _ f)))

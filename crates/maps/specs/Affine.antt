@@ -25,6 +25,10 @@ none_shared a m (suc n) = not (divides (suc (suc n)) a && divides (suc (suc n)) 
 abbrev pub coprime : ℕ → ℕ → Bool
 coprime a m = none_shared a m m
 
+-- the parameters of a line that can be undone
+abbrev pub line_parameters : ℕ → ℕ → ℕ → Bool
+line_parameters m a b = is_modulus m && (nat_lt a m && (nat_lt b m && coprime a m))
+
 -- the parameters that a map can have
 abbrev pub affine_parameters : ℕ → ℕ → ℕ → ℕ → ℕ → Bool
 affine_parameters m a b c d =

@@ -1,13 +1,16 @@
 -- The rule of affine residues keeps the laws. Assumes nothing.
 use Rattle.std.specs.Prelude.{◌≡◌, ℕ, zero, suc, ◌+◌, ◌-◌, ◌*◌, ◌%◌, ◌<◌, true, false, T, ◌⊎◌, ◌==◌, ◌≢◌, nat_lt, refl}
 use Rattle.std.proofs.Common.{sym, ap, subst, ◌∙◌, inl, inr, ⊎_elim, mod-eq_of_lt, mod-lt, arith}
-use Rattle.std.proofs.lemmas.Bool.{and_from, and_parts, cases_Bool, cases_eq, eq-eqb, eqb-true, lt-ltb, ltb-true}
+use Rattle.std.proofs.lemmas.Bool.{and_from, and_parts, cases_eq, eq-eqb, eqb-true, false_from_ne_true, lt-ltb, ltb-true}
 use Rattle.std.proofs.lemmas.Bool.Decides.{eqb_tells}
 use Rattle.exchange.specs.Rules.{Sound}
 use Rattle.maps.specs.Affine.{Commute, affine_parameters, affine_rule, back, coprime, inverts, line}
 use Rattle.maps.specs.Making.{is_modulus}
-use Rattle.maps.specs.Bounds.{held, holds, modulus_bounds}
-use Rattle.maps.specs.Residues.{Same, same_add, same_less, same_mod, same_mul}
+use Rattle.std.proofs.lemmas.Float.{T_from_true}
+use Rattle.std.proofs.lemmas.Nat.{mul-mod_second}
+use Rattle.std.proofs.Math.Nat.{mod-add-mod}
+use Rattle.maps.specs.Bounds.{holds, modulus_bounds}
+use Rattle.maps.specs.Residues.{Same, same_add, same_less, same_mul}
 
 both : {x y u v : ℕ} → x ≡ u → y ≡ v → ◌≡◌ {A = ℕ × ℕ} (x, y) (u, v)
 both p q = cc
@@ -36,7 +39,7 @@ module _ (m a b i : ℕ) (low : b < m) (inv : Same m (a * i) 1) where
       let k = y + (m - b) in
       let w = i * k in
       let e : a * w ≡ k * (a * i) = omega arith in
-      let f : Same m (a * (w % m)) (k * 1) = same_mul m a (w % m) w (same_mod m w) ∙ (ap (λ n. n % m) e ∙ same_mul m k (a * i) 1 inv) in
+      let f : Same m (a * (w % m)) (k * 1) = mul-mod_second a w m ∙ (ap (λ n. n % m) e ∙ same_mul m k (a * i) 1 inv) in
       let g : k * 1 + b ≡ y + m * 1 = omega arith in
       same_add m (a * (w % m)) b (k * 1) b f refl ∙ (ap (λ n. n % m) g ∙ (same_less m y 1 ∙ mod-eq_of_lt h))
 
@@ -44,7 +47,7 @@ module _ (m a b i : ℕ) (low : b < m) (inv : Same m (a * i) 1) where
   unline_line x h =
       let k = a * x + b in
       let e : k + (m - b) ≡ a * x + m * 1 = omega arith in
-      let f : Same m (k % m + (m - b)) (a * x) = same_add m (k % m) (m - b) k (m - b) (same_mod m k) refl ∙ (ap (λ n. n % m) e ∙ same_less m (a * x) 1) in
+      let f : Same m (k % m + (m - b)) (a * x) = mod-add-mod k m (m - b) ∙ (ap (λ n. n % m) e ∙ same_less m (a * x) 1) in
       let g : i * (a * x) ≡ x * (a * i) = omega arith in
       let q : x * 1 ≡ x = omega arith in
       same_mul m i (k % m + (m - b)) (a * x) f ∙ (ap (λ n. n % m) g ∙ (same_mul m x (a * i) 1 inv ∙ (ap (λ n. n % m) q ∙ mod-eq_of_lt h)))
@@ -64,7 +67,7 @@ module _ (m a b i : ℕ) (low : b < m) (inv : Same m (a * i) 1) where
 module _ (m a b c d : ℕ) (e : Same m (a * d + b) (c * b + d)) where
   pub commute : Commute m a b c d
   commute x h =
-      let f : (p q r s : ℕ) → Same m (p * ((r * x + s) % m) + q) (p * (r * x + s) + q) = λ p q r s. same_add m (p * ((r * x + s) % m)) q (p * (r * x + s)) q (same_mul m p ((r * x + s) % m) (r * x + s) (same_mod m (r * x + s))) refl in
+      let f : (p q r s : ℕ) → Same m (p * ((r * x + s) % m) + q) (p * (r * x + s) + q) = λ p q r s. same_add m (p * ((r * x + s) % m)) q (p * (r * x + s)) q (mul-mod_second p (r * x + s) m) refl in
       let g : a * (c * x + d) + b ≡ (a * c) * x + (a * d + b) = omega arith in
       let k : c * (a * x + b) + d ≡ (a * c) * x + (c * b + d) = omega arith in
       f a b c d ∙ (ap (λ n. n % m) g ∙ (same_add m ((a * c) * x) (a * d + b) ((a * c) * x) (c * b + d) refl e ∙ sym (f c d a b ∙ ap (λ n. n % m) k)))
@@ -111,7 +114,7 @@ accepted m a b c d p =
     (and_from _ _ p.c_coprime (eq-eqb _ _ p.commuting)))))))
 
 pub refused : (m a b c d : ℕ) → (Parameters m a b c d → ⊥) → affine_parameters m a b c d ≡ false
-refused m a b c d n = ⊎_elim (λ e. absurd (n (parameters m a b c d e))) (λ e. e) (cases_Bool (affine_parameters m a b c d))
+refused m a b c d n = false_from_ne_true _ (λ e. n (parameters m a b c d e))
 
 pub inverse_low : (m a i : ℕ) → T (inverts m a i) → i < m
 inverse_low m a i h = ltb-true i m (and_parts _ _ (holds (inverts m a i) h)).0
@@ -123,11 +126,11 @@ module _ (m a b c d i j : ℕ) (h : T (affine_parameters m a b c d)) (ti : T (in
   pub affine_sound : Sound (affine_rule m a b c d)
   affine_sound =
       let p = parameters m a b c d (holds _ h) in
-      let bounds = modulus_bounds m (held _ p.modulus) in
+      let bounds = modulus_bounds m (T_from_true _ p.modulus) in
       let ia = inverse_same m a i ti in
       let ic = inverse_same m c j tj in
       let low : (x : ℕ) → T (nat_lt x m) → x < m = λ x t. ltb-true x m (holds _ t) in
-      let in_range : (x : ℕ) → x < m → T (nat_lt x m) = λ x l. held _ (lt-ltb x m l) in
+      let in_range : (x : ℕ) → x < m → T (nat_lt x m) = λ x l. T_from_true _ (lt-ltb x m l) in
       let reduced : (x : ℕ) → T (nat_lt (x % m) m) = λ x. in_range (x % m) (mod-lt x (omega arith)) in
       record {
         numbers = record {

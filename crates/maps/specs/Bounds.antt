@@ -1,6 +1,6 @@
 -- What the tests of maps say as facts. Assumes nothing.
 use Rattle.std.specs.Prelude.{◌≡◌, ℕ, ◌≤◌, Bool, true, false, T, refl}
-use Rattle.std.proofs.Common.{sym, subst, arith}
+use Rattle.std.proofs.Common.{sym, arith}
 use Rattle.std.proofs.lemmas.Bool.Decides.{nat_tests}
 use Rattle.exchange.specs.Meaning.{Exchange}
 use Rattle.exchange.specs.Rules.{guarded}
@@ -9,9 +9,6 @@ use Rattle.maps.specs.Making.{is_modulus}
 pub holds : (b : Bool) → T b → b ≡ true
 holds true h = refl
 holds false h = absurd h
-
-pub held : (b : Bool) → b ≡ true → T b
-held b e = subst T (sym e) tt
 
 pub modulus_bounds : (m : ℕ) → T (is_modulus m) → (1 ≤ m) × (m ≤ 65535)
 modulus_bounds m h = let e = holds _ h in (grind (arith, nat_tests), grind (arith, nat_tests))

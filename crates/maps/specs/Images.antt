@@ -5,7 +5,8 @@ use Rattle.std.proofs.lemmas.List.Sums.{sum_by-cons, count_by-le-length, get_or-
 use Rattle.std.proofs.lemmas.Bool.{and_parts, cases_eq, eqb-true, eq-eqb}
 use Rattle.std.proofs.lemmas.Bool.Decides.{Decides-eqb, Decides-below_and, eqb_tells, nat_tests}
 use Rattle.maps.specs.Permutations.{each_once, image, perm_belongs, place, times}
-use Rattle.maps.specs.Bounds.{held, holds}
+use Rattle.std.proofs.lemmas.Float.{T_from_true}
+use Rattle.maps.specs.Bounds.{holds}
 
 pub record Perm (x : List ℕ) : Type 0 where
   pub long : length x ≡ 8
@@ -21,7 +22,7 @@ perm x h =
     record { long = eqb-true (length x) 8 e.0; once = (once_decides x 8).0 e.1 }
 
 pub perm_held : (x : List ℕ) → Perm x → T (perm_belongs x)
-perm_held x p = held _ (simp (eq-eqb (length x) 8 p.long, (once_decides x 8).1 p.once))
+perm_held x p = T_from_true _ (simp (eq-eqb (length x) 8 p.long, (once_decides x 8).1 p.once))
 
 abbrev hit : ℕ → ℕ → ℕ
 hit w v = cond (w == v) 1 0

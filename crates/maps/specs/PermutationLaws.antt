@@ -12,7 +12,8 @@ use Rattle.std.proofs.lemmas.Bool.{and_from, and_parts, lt-ltb, ltb-true}
 use Rattle.exchange.specs.Laws.{Braids}
 use Rattle.exchange.specs.Rules.{Numbers, Sound}
 use Rattle.maps.specs.Permutations.{Conjugates, conjugate, eight, identity, image, images, inverse, perm_belongs, perm_code, perm_cross, perm_elements, perm_rule, place, product, unconjugate}
-use Rattle.maps.specs.Bounds.{held, holds}
+use Rattle.std.proofs.lemmas.Float.{T_from_true}
+use Rattle.maps.specs.Bounds.{holds}
 use Rattle.maps.specs.Conjugation.{Group, conj_belongs, conj_conj, conj_is, conj_only, unconj_belongs, unconj_is, unconj_only}
 use Rattle.maps.specs.Images.{Perm, image_of, perm, perm_from, perm_held, place_of, place_small, small}
 
@@ -112,9 +113,9 @@ numbers : Numbers perm_elements
 numbers = record {
   kind_small = λ x b. omega arith;
   code_small = λ x b. omega (arith, code_weighs (perm x b), weigh_small (perm x b));
-  code_is_one = λ x b. held _ (and_from _ _ (lt-ltb _ _ (omega (arith, code_weighs (perm x b), weigh_small (perm x b)))) (holds _ (subst (λ (w : List ℕ). T (perm_belongs w)) (sym (unweighed (perm x b))) b)));
+  code_is_one = λ x b. T_from_true _ (and_from _ _ (lt-ltb _ _ (omega (arith, code_weighs (perm x b), weigh_small (perm x b)))) (holds _ (subst (λ (w : List ℕ). T (perm_belongs w)) (sym (unweighed (perm x b))) b)));
   element_of_code = λ x b. unweighed (perm x b);
-  element_belongs = λ n b. held _ (and_parts _ _ (holds _ b)).1;
+  element_belongs = λ n b. T_from_true _ (and_parts _ _ (holds _ b)).1;
   code_of_element = λ n b. weighed n (ltb-true n (8 ^ 8) (and_parts _ _ (holds _ b)).0);
   rest_belongs = group.one_belongs;
 }

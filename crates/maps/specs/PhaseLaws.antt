@@ -6,11 +6,12 @@ use Rattle.std.proofs.Math.Logic.{⊎_elim}
 use Rattle.std.proofs.Math.Nat.{mod-add-mod, add-mod-mod}
 use Rattle.std.proofs.lemmas.Bool.{eq-eqb, ne_eqb}
 use Rattle.std.proofs.lemmas.Bool.Decides.{eqb_tells, nat_tests}
-use Rattle.exchange.specs.Laws.{All, Braids, Keeps, Pair, Undoes, first, last}
+use Rattle.exchange.specs.Laws.{Triple, Braids, Keeps, Pair, Undoes, first, last}
 use Rattle.exchange.specs.Rules.{Numbers, Returns, Sound, Trades}
 use Rattle.maps.specs.Making.{is_modulus}
 use Rattle.maps.specs.Phases.{Passage, gained, lost, passes, phase_belongs, phase_cross, phase_elements, phase_map, phase_rule, shift, soliton}
-use Rattle.maps.specs.Bounds.{held, holds, modulus_bounds, on_elements}
+use Rattle.std.proofs.lemmas.Float.{T_from_true}
+use Rattle.maps.specs.Bounds.{holds, modulus_bounds, on_elements}
 use Rattle.maps.specs.Residues.{rest_of, same_less}
 use Rattle.maps.specs.declared.soliton.Soliton.{Soliton}
 
@@ -22,7 +23,7 @@ elements : (m k p : ℕ) → T (phase_belongs m (soliton k p)) → (1 ≤ k) × 
 elements m k p h = let e = holds _ h in (grind (arith, nat_tests), grind (arith, nat_tests), grind (arith, nat_tests))
 
 belonging : (m k p : ℕ) → 1 ≤ k → k ≤ 255 → p < m → T (phase_belongs m (soliton k p))
-belonging m k p a b c = let e : phase_belongs m (soliton k p) ≡ true = grind (arith, nat_tests) in held _ e
+belonging m k p a b c = let e : phase_belongs m (soliton k p) ≡ true = grind (arith, nat_tests) in T_from_true _ e
 
 module _ (m : ℕ) where
   commute : (a b p : ℕ) → gained m a (gained m b p) ≡ gained m b (gained m a p)
@@ -88,7 +89,7 @@ module _ (m : ℕ) where
       simp (a, b, c) (cc (f, g, h))
 
   -- the ends alike: what the middle one passes it passes back
-  ends_alike : (x y z : Soliton) → All (phase_elements m) (x, y, z) → x.kind ≡ z.kind → Braid x y z
+  ends_alike : (x y z : Soliton) → Triple (phase_elements m) (x, y, z) → x.kind ≡ z.kind → Braid x y z
   unfolding Braid
   ends_alike x y z h e =
       let f = phase_cross m in

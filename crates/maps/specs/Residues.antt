@@ -1,15 +1,13 @@
 -- Numbers that are the same modulo m. Assumes nothing.
 use Rattle.std.specs.Prelude.{◌≡◌, ℕ, ◌+◌, ◌-◌, ◌*◌, ◌/◌, ◌%◌, ◌<◌, refl}
 use Rattle.std.proofs.Common.{sym, ap, ◌∙◌, mod-lt, arith}
-use Rattle.std.proofs.Math.Nat.{add-mul-mod_self_left, div-add-mod, add-mod, mod-mod}
+use Rattle.std.proofs.lemmas.Nat.{mul-mod_second}
+use Rattle.std.proofs.Math.Nat.{add-mul-mod_self_left, div-add-mod, add-mod}
 
 abbrev pub Same : ℕ → ℕ → ℕ → Type 0
 Same m x y = x % m ≡ y % m
 
 module _ (m : ℕ) where
-  pub same_mod : (x : ℕ) → Same m (x % m) x
-  same_mod x = mod-mod x m
-
   pub same_add : (x y u v : ℕ) → Same m x u → Same m y v → Same m (x + y) (u + v)
   same_add x y u v p q = add-mod x y m ∙ (ap (λ n. (n + y % m) % m) p ∙ (ap (λ n. (u % m + n) % m) q ∙ sym (add-mod u v m)))
 
@@ -18,12 +16,7 @@ module _ (m : ℕ) where
   same_less x k = add-mul-mod_self_left x m k
 
   pub same_mul : (k x u : ℕ) → Same m x u → Same m (k * x) (k * u)
-  same_mul k x u e = reduced x ∙ (ap (λ n. (k * n) % m) e ∙ sym (reduced u))
-    where
-      reduced : (x : ℕ) → Same m (k * x) (k * (x % m))
-      reduced x =
-          let f : k * x ≡ k * (x % m) + m * (k * (x / m)) = omega (arith, ap (λ n. k * n) (div-add-mod x m)) in
-          ap (λ n. n % m) f ∙ same_less (k * (x % m)) (k * (x / m))
+  same_mul k x u e = sym (mul-mod_second k x m) ∙ (ap (λ n. (k * n) % m) e ∙ mul-mod_second k u m)
 
   -- z and what it lacks to a multiple of m
   pub rest_of : (z : ℕ) → 0 < m → z + (m - z % m) ≡ m * (z / m + 1)

@@ -1,30 +1,34 @@
 // Affine residues: the numbers below a modulus, crossed by two affine maps that commute.
 ghost use Rattle.std.specs.Prelude.{◌≡◌, ◌+◌, ◌-◌, ◌*◌, ◌%◌, ◌<◌, T, OnOk};
+ghost use Rattle.std.proofs.Common.{subst};
 ghost use Rattle.exchange.specs.Laws.{Pair};
-ghost use Rattle.maps.specs.Affine.{Commute, Crossed, affine_elements, affine_map, affine_parameters, back, coprime, inverts, line};
+ghost use Rattle.maps.specs.Affine.{Commute, Crossed, affine_elements, affine_map, affine_parameters, back, coprime, inverts, line, line_parameters};
 ghost use Rattle.maps.specs.Making.{Makes, is_modulus};
 ghost use Rattle.exchange.proofs.Completion.{completed_lawful};
 ghost use Rattle.maps.specs.AffineLaws.{affine_sound};
 
 use exchange::{ExchangeMap, Refusal};
 
-// The affine map x to slope x + shift, with the inverse of its slope.
+// The affine map x to slope x + shift modulo `modulus`, with the inverse of its slope.
 #[derive(Clone, Copy)]
 struct Line {
+    modulus: u32,
     slope: u32,
     shift: u32,
     inverse: u32,
+    ghost bounded: { T (is_modulus modulus) },
+    ghost slope_low: { slope < modulus },
+    ghost shift_low: { shift < modulus },
+    ghost turns: { T (inverts modulus slope inverse) },
 }
 
-// The map whose cross of x and y is f(y) and g(x), modulo `modulus`.
+// The map whose cross of x and y is f(y) and g(x).
 #[derive(Clone, Copy)]
 pub struct Affine {
-    modulus: u32,
     f: Line,
     g: Line,
-    ghost lawful: { T (affine_parameters modulus f.slope f.shift g.slope g.shift) },
-    ghost f_turns: { T (inverts modulus f.slope f.inverse) },
-    ghost g_turns: { T (inverts modulus g.slope g.inverse) },
+    ghost same_modulus: { g.modulus ≡ f.modulus },
+    ghost lawful: { T (affine_parameters f.modulus f.slope f.shift g.slope g.shift) },
 }
 
 // Euclid's algorithm: beside each remainder r its factor t, with a t and r the same modulo m.
@@ -47,60 +51,63 @@ fn inverse_modulo(a: u32, m: u32) -> Result<u32, Refusal>
 }
 
 impl Line {
-    fn at(self, m: u32, x: u32) -> u32
-        requires { (T (is_modulus m)) × ((self.slope < m) × ((self.shift < m) × (x < m))) }
-        ensures { result ≡ line m self.slope self.shift x }
+    fn new(modulus: u32, slope: u32, shift: u32) -> Result<Line, Refusal>
+        ensures { Makes (line_parameters modulus slope shift) (λ l. (l.modulus ≡ modulus) × (l.slope ≡ slope) × (l.shift ≡ shift)) result }
     {
-        (self.slope * x + self.shift) % m
+        if !(1..=65535).contains(&modulus) || slope >= modulus || shift >= modulus {
+            return Err(Refusal::BadParameters);
+        }
+        let inverse = inverse_modulo(slope, modulus)?;
+        Ok(Line {
+            modulus,
+            slope,
+            shift,
+            inverse,
+        })
     }
 
-    fn back(self, m: u32, y: u32) -> u32
-        requires modulus { T (is_modulus m) }
-        requires turns { T (inverts m self.slope self.inverse) }
-        requires shift_low { self.shift < m }
-        requires y_low { y < m }
-        ensures value { result ≡ back (line m self.slope self.shift) m y }
-        ensures low { result < m }
-        ensures found { line m self.slope self.shift result ≡ y }
+    fn at(self, x: u32) -> u32
+        requires { x < self.modulus }
+        ensures { result ≡ line self.modulus self.slope self.shift x }
     {
-        self.inverse * ((y + (m - self.shift)) % m) % m
+        (self.slope * x + self.shift) % self.modulus
+    }
+
+    fn back(self, y: u32) -> u32
+        requires { y < self.modulus }
+        ensures value { result ≡ back (line self.modulus self.slope self.shift) self.modulus y }
+        ensures low { result < self.modulus }
+        ensures found { line self.modulus self.slope self.shift result ≡ y }
+    {
+        self.inverse * ((y + (self.modulus - self.shift)) % self.modulus) % self.modulus
     }
 }
 
 impl Affine {
+    // Kept: five numbers, as a heading writes them: a struct of them would be taken apart where they are read, checked and written.
     pub fn new(m: u32, a: u32, b: u32, c: u32, d: u32) -> Result<Affine, Refusal>
-        ensures makes { Makes (affine_parameters m a b c d) (λ s. (s.modulus ≡ m) × (s.f.slope ≡ a) × (s.f.shift ≡ b) × (s.g.slope ≡ c) × (s.g.shift ≡ d)) result }
+        ensures makes { Makes (affine_parameters m a b c d) (λ s. (s.f.modulus ≡ m) × (s.f.slope ≡ a) × (s.f.shift ≡ b) × (s.g.slope ≡ c) × (s.g.shift ≡ d)) result }
         ensures commutes { OnOk result (Commute m a b c d) }
     {
-        if m < 1 || m > 65535 || a >= m || b >= m || c >= m || d >= m {
+        let f = Line::new(m, a, b)?;
+        let g = Line::new(m, c, d)?;
+        // two lines commute where they do at 0
+        if f.at(d) != g.at(b) {
             return Err(Refusal::BadParameters);
         }
-        let f = Line {
-            slope: a,
-            shift: b,
-            inverse: inverse_modulo(a, m)?,
-        };
-        let g = Line {
-            slope: c,
-            shift: d,
-            inverse: inverse_modulo(c, m)?,
-        };
-        if (a * d + b) % m != (c * b + d) % m {
-            return Err(Refusal::BadParameters);
-        }
-        Ok(Affine { modulus: m, f, g })
+        Ok(Affine { f, g })
     }
 }
 
 impl ExchangeMap for Affine {
     type Elem = u32;
 
-    ghost meaning = { λ s. affine_map s.modulus s.f.slope s.f.shift s.g.slope s.g.shift };
+    ghost meaning = { λ s. affine_map s.f.modulus s.f.slope s.f.shift s.g.slope s.g.shift };
 
-    ghost lawful = { λ s. completed_lawful (affine_sound s.modulus s.f.slope s.f.shift s.g.slope s.g.shift s.f.inverse s.g.inverse s.lawful s.f_turns s.g_turns) };
+    ghost lawful = { λ s. completed_lawful (affine_sound s.f.modulus s.f.slope s.f.shift s.g.slope s.g.shift s.f.inverse s.g.inverse s.lawful s.f.turns (subst (λ m. T (inverts m s.g.slope s.g.inverse)) s.same_modulus s.g.turns)) };
 
     fn belongs(&self, x: u32) -> bool {
-        x < self.modulus
+        x < self.f.modulus
     }
 
     fn kind(&self, _x: u32) -> u8 {
@@ -127,18 +134,16 @@ impl ExchangeMap for Affine {
         if !self.belongs(left) || !self.belongs(right) {
             return (left, right);
         }
-        let m = self.modulus;
-        (self.f.at(m, right), self.g.at(m, left))
+        (self.f.at(right), self.g.at(left))
     }
 
     fn uncross(&self, left: u32, right: u32) -> (u32, u32)
-        ensures value { let s = self.now in result ≡ (affine_map s.modulus s.f.slope s.f.shift s.g.slope s.g.shift).uncross left right }
-        ensures found { let s = self.now in Pair (affine_elements s.modulus) left right → Crossed s.modulus s.f.slope s.f.shift s.g.slope s.g.shift result.0 result.1 left right }
+        ensures value { let s = self.now in result ≡ (affine_map s.f.modulus s.f.slope s.f.shift s.g.slope s.g.shift).uncross left right }
+        ensures found { let s = self.now in Pair (affine_elements s.f.modulus) left right → Crossed s.f.modulus s.f.slope s.f.shift s.g.slope s.g.shift result.0 result.1 left right }
     {
         if !self.belongs(left) || !self.belongs(right) {
             return (left, right);
         }
-        let m = self.modulus;
-        (self.g.back(m, right), self.f.back(m, left))
+        (self.g.back(right), self.f.back(left))
     }
 }

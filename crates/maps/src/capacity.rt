@@ -34,7 +34,7 @@ impl ExchangeMap for Capacity {
 
     fn code(&self, x: Holder) -> u32 {
         if self.belongs(x) {
-            256 * x.capacity as u32 + x.balls as u32
+            256 * u32::from(x.capacity) + u32::from(x.balls)
         } else {
             u32::MAX
         }
@@ -42,11 +42,12 @@ impl ExchangeMap for Capacity {
 
     fn is_code(&self, n: u32) -> bool {
         let capacity = n / 256;
-        capacity >= 1 && capacity <= 255 && n % 256 <= capacity
+        (1..256).contains(&capacity) && n % 256 <= capacity
     }
 
     fn element(&self, n: u32) -> Holder {
         if self.is_code(n) {
+            // Kept: `as` where a bound is proved, here and in cross: u8::try_from would add a branch that no number takes, and to_be_bytes would have to be proved this quotient and remainder.
             Holder {
                 capacity: (n / 256) as u8,
                 balls: (n % 256) as u8,
@@ -67,16 +68,16 @@ impl ExchangeMap for Capacity {
         if !self.belongs(left) || !self.belongs(right) {
             return (left, right);
         }
-        let sum = right.balls as u16 + left.balls as u16;
-        let p = sum.saturating_sub(right.capacity as u16);
-        let q = sum.saturating_sub(left.capacity as u16);
+        let sum = u16::from(right.balls) + u16::from(left.balls);
+        let p = sum.saturating_sub(u16::from(right.capacity));
+        let q = sum.saturating_sub(u16::from(left.capacity));
         let new_left = Holder {
             capacity: right.capacity,
-            balls: (left.balls as u16 + q - p) as u8,
+            balls: (u16::from(left.balls) + q - p) as u8,
         };
         let new_right = Holder {
             capacity: left.capacity,
-            balls: (right.balls as u16 + p - q) as u8,
+            balls: (u16::from(right.balls) + p - q) as u8,
         };
         (new_left, new_right)
     }

@@ -20,10 +20,11 @@ impl Phases {
     pub fn new(m: u32) -> Result<Phases, Refusal>
         ensures { Makes (is_modulus m) (λ s. s.modulus ≡ m) result }
     {
-        if m < 1 || m > 65535 {
-            return Err(Refusal::BadParameters);
+        // Kept: the bounds of a modulus here and in the lines of Affine: the one is a conversion, the other a range of numbers to reckon with.
+        match u16::try_from(m) {
+            Ok(modulus @ 1..) => Ok(Phases { modulus }),
+            _ => Err(Refusal::BadParameters),
         }
-        Ok(Phases { modulus: m as u16 })
     }
 
     fn gained(&self, phase: u16, t: u16) -> u16
@@ -63,11 +64,12 @@ impl ExchangeMap for Phases {
     }
 
     fn is_code(&self, n: u32) -> bool {
-        n >= 65536 && n < 16777216 && n % 65536 < u32::from(self.modulus)
+        (65536..16777216).contains(&n) && n % 65536 < u32::from(self.modulus)
     }
 
     fn element(&self, n: u32) -> Soliton {
         if self.is_code(n) {
+            // Kept: `as` where a bound is proved, here and in gained: try_from would add a branch that no number takes, and to_be_bytes would have to be proved this quotient and remainder.
             Soliton {
                 kind: (n / 65536) as u8,
                 phase: (n % 65536) as u16,

@@ -36,7 +36,7 @@ fn holders(rt: HostRuntime) {
             balls: 3,
         },
     );
-    assert!(rt; Capacity.cross(left, right) == crossed);
+    assert_eq!(rt; Capacity.cross(left, right), crossed);
     for (capacity, balls, belongs) in [
         (0, 0, false),
         (1, 0, true),
@@ -69,8 +69,8 @@ fn permutations(rt: HostRuntime) {
     let x = [1, 0, 2, 3, 4, 5, 6, 7];
     let y = [0, 2, 1, 3, 4, 5, 6, 7];
     let z = [2, 1, 0, 3, 4, 5, 6, 7];
-    assert!(rt; Permutations.cross(x, y) == (y, z));
-    assert!(rt; Permutations.uncross(y, z) == (x, y));
+    assert_eq!(rt; Permutations.cross(x, y), (y, z));
+    assert_eq!(rt; Permutations.uncross(y, z), (x, y));
     assert_eq!(rt; Permutations.code([7, 6, 5, 4, 3, 2, 1, 0]), 342391);
     assert_eq!(rt; Permutations.code(Permutations.rest()), 16434824);
     assert!(rt; !Permutations.belongs([0, 1, 2, 3, 4, 5, 6, 8]));
@@ -83,7 +83,7 @@ fn solitons(rt: HostRuntime) -> Result<(), Fail> {
     let left = Soliton { kind: 3, phase: 1 };
     let right = Soliton { kind: 2, phase: 4 };
     let crossed = (Soliton { kind: 2, phase: 8 }, Soliton { kind: 3, phase: 7 });
-    assert!(rt; map.cross(left, right) == crossed);
+    assert_eq!(rt; map.cross(left, right), crossed);
     for (kind, phase, belongs) in [(0, 0, false), (255, 9, true), (255, 10, false)] {
         assert_eq!(rt; map.belongs(Soliton { kind, phase }), belongs);
     }

@@ -1,5 +1,5 @@
 -- How long numbers and lines are. Assumes nothing.
-use Rattle.std.proofs.Common.{◌≡◌, ℕ, ◌+◌, ◌*◌, ◌^◌, ◌<◌, ◌≤◌, List, [], ◌∷◌, ◌++◌, map, length, codes as bytes, decimal, refl, ap, arith, length-append}
+use Rattle.std.proofs.Common.{◌≡◌, ℕ, ◌+◌, ◌*◌, ◌^◌, ◌<◌, ◌≤◌, List, [], ◌∷◌, ◌++◌, map, length, decimal, sym, refl, ap, ◌∙◌, append_assoc, arith, length-append}
 use Rattle.std.specs.List.{AllByRecursion}
 use Rattle.std.proofs.lemmas.Fmt.{length-decimal-le}
 use Rattle.rowfile.specs.Lines.{led, line_of, ended}
@@ -10,7 +10,7 @@ use Rattle.rowfile.specs.declared.file.Side.TheVariants.{Left, Right}
 use Rattle.rowfile.specs.declared.file.MapName.{MapName}
 use Rattle.rowfile.specs.declared.file.MapName.TheVariants.{Cap, Perm, Aff, Phase}
 use Rattle.rowfile.specs.declared.file.Heading.{Heading}
-use Rattle.rowfile.specs.declared.file.Stage.TheVariants.{Map, Commands}
+use Rattle.rowfile.specs.declared.file.Stage.TheVariants.{Map, Row, Commands}
 use Rattle.rowfile.specs.declared.file.Command.{Command}
 use Rattle.rowfile.specs.declared.file.Command.TheVariants.{Sweep, Exchange, ExchangeBack, Raise, TakeBack, Print}
 
@@ -43,16 +43,19 @@ commands_bounds h (c ∷ cs) k =
     let l = length-append (command_line c) (10 ∷ commands_text cs) in
     (omega arith, omega arith)
 
--- the text in the parts that are laid
-pub text_is : (h : Heading) (ns : List ℕ) (cs : List Command) → text_of (filed h ns cs) ≡ line_of (written Map h) ++ (bytes "\nrow" ++ (led 9 (map decimal ns) ++ (10 ∷ commands_text cs)))
-text_is h ns cs = ap (λ k. line_of (written Map h) ++ (10 ∷ 114 ∷ 111 ∷ 119 ∷ (led 9 (map decimal ns) ++ (10 ∷ k)))) (commands_are h cs)
+-- the text in the lines that are laid
+pub text_lines : (h : Heading) (ns : List ℕ) (cs : List Command) → ((line_of (written Map h) ++ 10 ∷ []) ++ (line_of (written (Row h) ns) ++ 10 ∷ [])) ++ commands_text cs ≡ text_of (filed h ns cs)
+text_lines h ns cs =
+    let H = line_of (written Map h) in
+    let R = line_of (written (Row h) ns) in
+    let r = append_assoc R (10 ∷ []) (commands_text cs) ∙ ap (λ k. R ++ (10 ∷ k)) (sym (commands_are h cs)) in
+    append_assoc (H ++ 10 ∷ []) (R ++ 10 ∷ []) (commands_text cs) ∙ (append_assoc H (10 ∷ []) ((R ++ 10 ∷ []) ++ commands_text cs) ∙ ap (λ k. H ++ (10 ∷ k)) r)
 
 pub text_length : (h : Heading) (ns : List ℕ) (cs : List Command) → length (text_of (filed h ns cs)) ≡ length (line_of (written Map h)) + (5 + (length (led 9 (map decimal ns)) + length (commands_text cs)))
 text_length h ns cs =
     let H = line_of (written Map h) in
-    let N = led 9 (map decimal ns) in
-    let C = commands_text cs in
-    omega (arith, ap length (text_is h ns cs), length-append H (bytes "\nrow" ++ (N ++ (10 ∷ C))), length-append N (10 ∷ C))
+    let R = line_of (written (Row h) ns) in
+    omega (arith, ap length (text_lines h ns cs), length-append ((H ++ 10 ∷ []) ++ (R ++ 10 ∷ [])) (commands_text cs), length-append (H ++ 10 ∷ []) (R ++ 10 ∷ []), length-append H (10 ∷ []), length-append R (10 ∷ []))
 
 side_one : (s : Side) → length (side_word s) ≡ 1
 side_one Left = refl

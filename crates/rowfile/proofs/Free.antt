@@ -3,12 +3,12 @@ use Rattle.std.proofs.Common.{◌≡◌, ℕ, ◌<◌, Bool, true, ◌&&◌, eqb
 use Rattle.std.specs.List.{AllByRecursion}
 use Rattle.std.proofs.ByRecursion.{All-append}
 use Rattle.std.proofs.lemmas.List.{append-nil}
-use Rattle.std.proofs.lemmas.Str.Parse.{tells_all_ascii_digits}
+use Rattle.std.proofs.lemmas.Str.Parse.{tells_digits}
 use Rattle.std.proofs.lemmas.Bool.{eq-eqb, ne_eqb, cond-true, cond-false, and_parts, leb-true}
-use Rattle.std.specs.Str.{all_ascii_digits}
+use Rattle.std.specs.Str.Parse.{AllDigits}
 use Rattle.rowfile.specs.Lines.{Bytes, parts, grown, led, parted, ended, lines, fields, line_of}
 use Rattle.rowfile.specs.Files.{File, Small, side_word, name_word, letter, words, numbers, written, Next, rowed, lines_of, text_of, KeepsLine, KeepsLines}
-use Rattle.rowfile.proofs.Numbers.{digits_of}
+use Rattle.rowfile.proofs.Numbers.{written_digits}
 use Rattle.rowfile.specs.declared.file.Side.{Side}
 use Rattle.rowfile.specs.declared.file.Side.TheVariants.{Left, Right}
 use Rattle.rowfile.specs.declared.file.MapName.{MapName}
@@ -41,13 +41,13 @@ parts_ended [] f = refl
 parts_ended (l ∷ ls) f = parts_mark 10 l (ended ls) f.0 ∙ ap (λ k. l ∷ k) (parts_ended ls f.1)
 
 -- digits are no marks
-digits_free : (s : ℕ) (cs : Bytes) → s < 48 → all_ascii_digits cs ≡ true → Free s cs
+digits_free : (s : ℕ) (cs : Bytes) → s < 48 → AllDigits 10 cs → Free s cs
 digits_free s [] l e = tt
-digits_free s (c ∷ cs) l e = let p = tells_all_ascii_digits.parts c cs e in (λ q. omega (arith, p.0.0), digits_free s cs l p.1)
+digits_free s (c ∷ cs) l e = let p = tells_digits.parts c cs e in (λ q. omega (arith, p.0.0), digits_free s cs l p.1)
 
 decimals_free : (s : ℕ) (ns : List ℕ) → s < 48 → Small ns → AllByRecursion (Free s) (map decimal ns)
 decimals_free s [] l m = tt
-decimals_free s (n ∷ ns) l m = (digits_free s (decimal n) l (digits_of (decimal n) n (m.0, refl)).0, decimals_free s ns l m.1)
+decimals_free s (n ∷ ns) l m = (digits_free s (decimal n) l (written_digits (decimal n) n (m.0, refl)), decimals_free s ns l m.1)
 
 -- words of bytes from 48 on
 above : Bytes → Bool

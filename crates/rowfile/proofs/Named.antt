@@ -1,5 +1,5 @@
 -- What making a map tells of the rule for its parameters. Assumes nothing.
-use Rattle.std.proofs.Common.{◌≡◌, Bool, true, false, ◌&&◌, T, is_ok, Ok, Err, Result, sym, refl, ap, ◌∙◌}
+use Rattle.std.proofs.Common.{◌≡◌, Bool, true, false, ◌&&◌, T, is_ok, Ok, Err, Result, MatchResult, sym, refl, ap, ◌∙◌}
 use Rattle.exchange.specs.declared.refusal.Refusal.{Refusal}
 use Rattle.maps.specs.Making.{Makes}
 
@@ -11,9 +11,7 @@ pub made_ok : {M : Type 0} (rule : Bool) (has : M → Type 0) (r : Result M Refu
 made_ok rule has (Ok s) h = sym (true_from_T rule h.0)
 made_ok rule has (Err e) h = sym h.0
 
--- the codes of a map that is made
-pub both_true : (rule x y : Bool) → T rule → x ≡ y → x ≡ (rule && y)
-both_true rule x y t e = e ∙ ap (λ b. b && y) (sym (true_from_T rule t))
-
-pub first_false : (rule y : Bool) → rule ≡ false → false ≡ (rule && y)
-first_false rule y e = ap (λ b. b && y) (sym e)
+-- the codes of a map that is made; none where it is not
+pub made_code : {M : Type 0} (rule : Bool) (has : M → Type 0) (code : M → Bool) (r : Result M Refusal) (b y : Bool) → Makes rule has r → MatchResult r (λ s. b ≡ code s) (λ _. b ≡ false) → ((s : M) → has s → code s ≡ y) → b ≡ (rule && y)
+made_code rule has code (Ok s) b y h m k = m ∙ (k s h.1 ∙ ap (λ x. x && y) (sym (true_from_T rule h.0)))
+made_code rule has code (Err e) b y h m k = m ∙ ap (λ x. x && y) (sym h.0)

@@ -1,7 +1,9 @@
 -- Bytes cut at a mark. Assumes nothing.
-use Rattle.std.proofs.Common.{◌≡◌, ℕ, zero, suc, ◌+◌, ◌<◌, ◌≤◌, Bool, true, false, cond, eqb, List, [], ◌∷◌, ◌++◌, length, take, drop, sym, refl, ap, ◌∙◌, ⊎_elim, arith}
-use Rattle.std.proofs.lemmas.List.{take_all, drop_all, drop_more}
-use Rattle.std.proofs.lemmas.Bool.{cases_eq, eq-eqb, ne_eqb, cond-true, cond-false}
+use Rattle.std.proofs.Common.{◌≡◌, ℕ, zero, suc, ◌+◌, ◌-◌, min, get_or, ◌<◌, ◌≤◌, Bool, true, false, cond, eqb, List, [], ◌∷◌, ◌++◌, length, take, drop, sym, refl, ap, ◌∙◌, ⊎_elim, arith}
+use Rattle.std.proofs.lemmas.List.{take_all, drop_all, drop_more, take-append-le, get_or_append_left}
+use Rattle.std.proofs.Math.Seq.{drop-append_seam}
+use Rattle.std.proofs.lemmas.Bool.{cases_eq, cases_lt, eqb-true, eqb-false, eq-eqb, ne_eqb, cond-true, cond-false}
+use Rattle.std.specs.List.{IsFirstMatchOrLen}
 use Rattle.rowfile.specs.Lines.{Bytes, First, parts, behind, grown, lines, led, parted, ended}
 
 -- the first part ends before the first mark
@@ -12,6 +14,23 @@ parts_cut s (c ∷ cs) zero f = cond-true (eqb c s) _ _ (eq-eqb c s (f.found (om
 parts_cut s (c ∷ cs) (suc n) f =
     let e = parts_cut s cs n (record { within = omega (arith, f.within); before = λ k l. f.before (suc k) (omega arith); found = λ l. f.found (omega arith) }) in
     cond-false (eqb c s) _ _ (ne_eqb c s (f.before 0 (omega arith))) ∙ ap (grown c) e
+
+-- there are no more parts than bytes
+grown_short : (c : ℕ) (ps : List Bytes) (n : ℕ) → length ps ≤ suc n → length (grown c ps) ≤ suc (suc n)
+grown_short c [] n h = omega arith
+grown_short c (p ∷ ps) n h = omega arith
+
+parts_short : (s : ℕ) (bs : Bytes) → length (parts s bs) ≤ suc (length bs)
+parts_short s [] = omega arith
+parts_short s (c ∷ cs) = by (eqb c s) (parts_short s cs)
+  where
+    by : (b : Bool) → length (parts s cs) ≤ suc (length cs) → length (cond b ([] ∷ parts s cs) (grown c (parts s cs))) ≤ suc (suc (length cs))
+    by true h = omega arith
+    by false h = grown_short c (parts s cs) (length cs) h
+
+pub behind_short : (s : ℕ) (bs : Bytes) → length (behind s bs) ≤ length bs
+behind_short s [] = omega arith
+behind_short s (c ∷ cs) = parts_short s cs
 
 pub some_part : (s : ℕ) (bs : Bytes) → (p : Bytes) × (ps : List Bytes) × (parts s bs ≡ p ∷ ps)
 some_part s [] = ([], [], refl)
@@ -59,3 +78,37 @@ next_line t n f l = parts_cut 10 t n f ∙ ap (λ k. take n t ∷ behind 10 k) (
 
 pub last_line : (t : Bytes) (n : ℕ) → First 10 t n → n ≡ length t → lines t ≡ t ∷ []
 last_line t n f e = let h : length t ≤ n = omega arith in parts_cut 10 t n f ∙ cc (take_all n t h, drop_all n t h)
+
+-- bytes that std cut behind the first byte 10, and what follows them
+module _ (t x us : Bytes) (i : ℕ) (cut : t ≡ x ++ us) (size : length x ≡ min (i + 1) (length t)) (match : IsFirstMatchOrLen (λ b. eqb b 10) t i) (some : 0 < length t) where
+  first : (n : ℕ) → n ≤ length t → n ≤ i → (n < length t → n ≡ i) → First 10 t n
+  first n h b f = record {
+    within = h;
+    before = λ k l e. absurd (eqb-false (get_or t k 0) 10 (match.0 k 0 (omega arith) (omega arith)) e);
+    found = λ l. eqb-true (get_or t n 0) 10 (ap (λ k. eqb (get_or t k 0) 10) (f l) ∙ match.1 (omega (arith, f l)) 0);
+  }
+
+  last_is : get_or x (length x - 1) 0 ≡ get_or t (length x - 1) 0
+  last_is = sym (ap (λ l. get_or l (length x - 1) 0) cut ∙ get_or_append_left x us 0 (length x - 1) (omega arith))
+
+  pub ended_line : get_or x (length x - 1) 0 ≡ 10 → lines t ≡ take (length x - 1) x ∷ lines us
+  ended_line e = ⊎_elim within beyond (cases_lt i (length t))
+    where
+      within : i < length t → lines t ≡ take (length x - 1) x ∷ lines us
+      within l =
+          let n : i ≡ length x - 1 = omega arith in
+          let f : take i t ≡ take (length x - 1) x = ap (take i) cut ∙ (take-append-le i x us (omega arith) ∙ ap (λ k. take k x) n) in
+          let b : drop (i + 1) t ≡ us = ap (drop (i + 1)) cut ∙ (ap (λ k. drop k (x ++ us)) (omega arith) ∙ drop-append_seam x us) in
+          next_line t i (first i (omega arith) (omega arith) (λ k. refl)) l ∙ cc
+
+      beyond : length t ≤ i → lines t ≡ take (length x - 1) x ∷ lines us
+      beyond l = absurd (eqb-false (get_or t (length x - 1) 0) 10 (match.0 (length x - 1) 0 (omega arith) (omega arith)) (sym last_is ∙ e))
+
+  pub unended_line : (get_or x (length x - 1) 0 ≡ 10 → ⊥) → lines t ≡ t ∷ []
+  unended_line e = ⊎_elim within beyond (cases_lt i (length t))
+    where
+      within : i < length t → lines t ≡ t ∷ []
+      within l = absurd (e (last_is ∙ (ap (λ k. get_or t k 0) (omega arith) ∙ eqb-true (get_or t i 0) 10 (match.1 l 0))))
+
+      beyond : length t ≤ i → lines t ≡ t ∷ []
+      beyond l = last_line t (length t) (first (length t) (omega arith) l (λ k. absurd (omega arith))) refl

@@ -115,6 +115,3 @@ five (a ∷ b ∷ c ∷ d ∷ e ∷ ns) h = ap (λ l. a ∷ b ∷ c ∷ d ∷ e 
 -- a letter with the one number that its fields write
 pub with_number : (k l : ℕ) (fs : List Bytes) (ns : List ℕ) → k ≡ l → (fs ≡ map decimal ns) × Small ns × (length ns ≡ 1) → ((k ∷ []) ∷ fs ≡ (l ∷ []) ∷ decimal (get_or ns 0 0) ∷ []) × Small (get_or ns 0 0 ∷ [])
 with_number k l fs ns q h = let e = one ns h.2 in let f = h.0 ∙ ap (map decimal) e in (cc, subst Small e h.1)
-
-pub with_none : (k l : ℕ) (fs : List Bytes) (ns : List ℕ) → k ≡ l → (fs ≡ map decimal ns) × Small ns × (length ns ≡ 0) → (k ∷ []) ∷ fs ≡ (l ∷ []) ∷ []
-with_none k l fs ns q h = let f = h.0 ∙ ap (map decimal) (nil_from_length ns h.2) in cc

@@ -7,6 +7,7 @@ use Rattle.rowfile.specs.Lines.{Bytes, behind, fields}
 use Rattle.rowfile.specs.Files.{Next, name_word, parameters, written, Small, KeepsLine}
 use Rattle.rowfile.specs.declared.file.MapName.{MapName}
 use Rattle.rowfile.specs.declared.file.Heading.{Heading}
+use Rattle.rowfile.specs.declared.fields.Fields.{Fields}
 use Rattle.rowfile.specs.declared.lines.Record.{Record}
 use Rattle.rowfile.specs.declared.lines.Record.TheVariants.{Map as RecordAsMap, Row as RecordAsRow, Command as RecordAsCommand}
 use Rattle.rowfile.specs.declared.lines.LineError.{LineError}
@@ -14,6 +15,10 @@ use Rattle.rowfile.specs.declared.lines.LineError.TheVariants.{Refused, Memory}
 use Rattle.rowfile.specs.declared.file.Stage.{Stage}
 use Rattle.rowfile.specs.declared.file.Stage.TheVariants.{Map, Row, Commands}
 use Rattle.rowfile.specs.Faults.{Any, NoNumber, Ground}
+
+-- the fields that are left
+abbrev pub fields_of : Fields → List Bytes
+fields_of f = behind 9 f.bytes.now
 
 -- n fields that are to be numbers: they are not n, or some is no number
 abbrev pub Misses : ℕ → List Bytes → Refusal → Type 0
@@ -43,9 +48,9 @@ Judged s fs r = MatchResult r (λ x. (fs ≡ written s x) × KeepsLine s x) (Gro
 
 -- the record holds the stage and the fields of the line, and its place
 abbrev pub IsRecord : Stage → Bytes → ℕ → ℕ → Record → Type 0
-IsRecord s b n o (RecordAsMap fs line offset) = (s ≡ Map) × (fields b ≡ bytes "map" ∷ behind 9 fs.now) × (line ≡ n) × (offset ≡ o)
-IsRecord s b n o (RecordAsRow h fs line offset) = (s ≡ Row h) × (fields b ≡ bytes "row" ∷ behind 9 fs.now) × (line ≡ n) × (offset ≡ o)
-IsRecord s b n o (RecordAsCommand h letter fs line offset) = (s ≡ Commands h) × (fields b ≡ (letter ∷ []) ∷ behind 9 fs.now) × (line ≡ n) × (offset ≡ o)
+IsRecord s b n o (RecordAsMap fs line offset) = (s ≡ Map) × (fields b ≡ bytes "map" ∷ fields_of fs) × (line ≡ n) × (offset ≡ o)
+IsRecord s b n o (RecordAsRow h fs line offset) = (s ≡ Row h) × (fields b ≡ bytes "row" ∷ fields_of fs) × (line ≡ n) × (offset ≡ o)
+IsRecord s b n o (RecordAsCommand h letter fs line offset) = (s ≡ Commands h) × (fields b ≡ (letter ∷ []) ∷ fields_of fs) × (line ≡ n) × (offset ≡ o)
 
 -- the record that the line b is, or why it is none
 abbrev pub Recorded : Stage → Bytes → ℕ → ℕ → Result Record Refusal → Type 0

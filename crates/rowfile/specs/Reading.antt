@@ -1,9 +1,11 @@
 -- What the reader answers of a text. Assumes nothing.
-use Rattle.std.specs.Prelude.{◌≡◌, ℕ, ◌⊎◌, vec_items, Result, MatchResult}
+use Rattle.std.specs.Prelude.{◌≡◌, ℕ, ◌⊎◌, [], ◌∷◌, codes as bytes, decimal, vec_items, Result, MatchResult}
 use Rattle.exchange.specs.declared.refusal.Refusal.{Refusal}
-use Rattle.rowfile.specs.Lines.{Bytes}
+use Rattle.exchange.specs.Refusals.{number_of}
+use Rattle.rowfile.specs.Lines.{Bytes, line_of}
 use Rattle.rowfile.specs.Files.{File, Keeps, text_of}
 use Rattle.rowfile.specs.Faults.{Faulty}
+use Rattle.rowfile.specs.declared.file.Fault.{Fault}
 use Rattle.rowfile.specs.declared.file.ReadError.{ReadError}
 use Rattle.rowfile.specs.declared.file.ReadError.TheVariants.{Fault as Faulted, Memory as NoMemory}
 use Rattle.rowfile.specs.declared.file.RowFile.{RowFile}
@@ -35,3 +37,7 @@ Accepts t r = (f : File) → Keeps f → t ≡ text_of f → Gives f r
 -- a faulty text is refused by its fault
 abbrev pub Rejects : Bytes → Result RowFile ReadError → Type 0
 Rejects t r = (n : ℕ) (q : Refusal) → Faulty t n q → Finds n q r
+
+-- the line that tells a fault, without its byte 10
+abbrev pub fault_line : Fault → Bytes
+fault_line f = line_of (bytes "!" ∷ decimal f.line ∷ decimal (number_of f.refusal) ∷ [])

@@ -1,5 +1,6 @@
 -- What the reader makes of one line after another. Assumes nothing.
-use Rattle.std.specs.Prelude.{◌≡◌, ℕ, List, [], ◌∷◌, ◌++◌, vec_items, Result, MatchResult, OnErr}
+use Rattle.std.specs.Prelude.{◌≡◌, ℕ, List, [], ◌∷◌, ◌++◌, vec_items, Result, MatchResult}
+use Rattle.exchange.specs.declared.refusal.Refusal.{Refusal}
 use Rattle.exchange.specs.declared.refusal.Refusal.TheVariants.{BadForm}
 use Rattle.rowfile.specs.Lines.{Bytes}
 use Rattle.rowfile.specs.Files.{Said, nothing, headed, rowed, KeepsLine, written}
@@ -14,7 +15,6 @@ use Rattle.rowfile.specs.declared.file.Stage.{Stage}
 use Rattle.rowfile.specs.declared.file.Stage.TheVariants.{Map, Row, Commands}
 use Rattle.rowfile.specs.declared.lines.LineError.{LineError}
 use Rattle.rowfile.specs.declared.lines.LineError.TheVariants.{Refused, Memory}
-use Rattle.rowfile.specs.declared.reader.Placed.{Placed}
 use Rattle.rowfile.specs.declared.reader.Reader.{Reader}
 use Rattle.rowfile.specs.Reading.{file_of}
 
@@ -22,12 +22,6 @@ use Rattle.rowfile.specs.Reading.{file_of}
 abbrev pub place : ℕ → LineError → ReadError
 place n (Refused r) = Faulted (record { line = n; refusal = r })
 place n Memory = NoMemory
-
-abbrev pub placed : Placed → ReadError
-placed p = place p.line p.error
-
-abbrev pub Places : ℕ → Result (Unit {0}) LineError → Result (Unit {0}) Placed → Type 0
-Places n r q = MatchResult r (λ _. OnErr q (⊥)) (λ e. MatchResult q (λ _. ⊥) (λ p. (p.line ≡ n) × (p.error ≡ e)))
 
 -- what a reader has been told
 abbrev pub so_far : Stage → List ℕ → List Command → Said
@@ -57,6 +51,6 @@ Follows (rowed f) fs t = (c : Command) × (fs ≡ written (Commands f.heading) c
 abbrev pub Takes : Reader → List Bytes → Result (Unit {0}) LineError → Reader → Type 0
 Takes s fs r t = Ready s → MatchResult r (λ _. Follows (said s) fs (said t) × Ready t) (Unread s.stage fs)
 
--- what a reader answers where the text ends before the line n
-abbrev pub Ends : Reader → ℕ → Result RowFile ReadError → Type 0
-Ends s n r = MatchResult r (λ f. said s ≡ rowed (file_of f)) (λ e. Unready s.stage × (e ≡ Faulted (record { line = n; refusal = BadForm })))
+-- what a reader answers where the text ends
+abbrev pub Ends : Reader → Result RowFile Refusal → Type 0
+Ends s r = MatchResult r (λ f. said s ≡ rowed (file_of f)) (λ e. Unready s.stage × (e ≡ BadForm))

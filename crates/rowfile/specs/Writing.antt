@@ -8,10 +8,15 @@ use Rattle.rowfile.specs.Faults.{Breaks}
 use Rattle.rowfile.specs.declared.file.Command.{Command}
 use Rattle.rowfile.specs.declared.file.Fault.{Fault}
 use Rattle.rowfile.specs.declared.file.Heading.{Heading}
+use Rattle.rowfile.specs.declared.writer.Contents.{Contents}
+use Rattle.rowfile.specs.declared.writer.Sink.{Sink}
 use Rattle.rowfile.specs.declared.file.Stage.TheVariants.{Map, Row, Commands}
 
 abbrev pub filed : Heading → List ℕ → List Command → File
 filed h ns cs = record { heading = h; codes = ns; commands = cs }
+
+abbrev pub file_in : Contents → File
+file_in c = filed c.heading c.codes.now c.commands.now
 
 -- the line of the command at a place, as far as a fault can name it
 abbrev pub line_number : ℕ → ℕ
@@ -37,6 +42,11 @@ laid out at (b ∷ bs) = laid (slice_set out at b) (at + 1) bs
 -- the bytes are laid from a place on, and r is the place behind them
 abbrev pub Lays : Bytes → ℕ → Bytes → Bytes → ℕ → Type 0
 Lays out at bs after r = (after ≡ laid out at bs) × (r ≡ at + length bs)
+
+-- the bytes are laid from the sink's place on, in the same memory
+pub record Appends (s : Sink) (bs : Bytes) (t : Sink) : Type 0 where
+  pub same : t.out.ghost_name ≡ s.out.ghost_name
+  pub lays : Lays s.out.now s.at bs t.out.now t.at
 
 abbrev pub command_line : Command → Bytes
 command_line c = line_of (letter c ∷ map decimal (argument c))

@@ -1,9 +1,11 @@
 // What a row file holds, and what a faulty text is answered with.
 ghost use Rattle.rowfile.specs.Headings.{has_code, lawful_parameters};
-ghost use Rattle.std.specs.Prelude.{◌≡◌};
+ghost use Rattle.rowfile.specs.Reading.{fault_line};
+ghost use Rattle.std.specs.Prelude.{◌≡◌, Some};
 
 use exchange::{ExchangeMap, Refusal};
 use maps::{Affine, Capacity, Permutations, Phases};
+use std::fmt;
 
 // `Right` means the mirror of the map.
 #[derive(Clone, Copy)]
@@ -29,6 +31,7 @@ pub enum MapName {
     },
 }
 
+// Kept: two tests in place of a made map: both are public, and one made map for all codes would be an enum of four maps beside the name, in every heading.
 impl MapName {
     // Whether the parameters make a map of that name.
     pub fn parameters_hold(self) -> bool
@@ -48,14 +51,10 @@ impl MapName {
         match self {
             MapName::Cap => Capacity.is_code(n),
             MapName::Perm => Permutations.is_code(n),
-            MapName::Aff { m, a, b, c, d } => match Affine::new(m, a, b, c, d) {
-                Ok(map) => map.is_code(n),
-                Err(_) => false,
-            },
-            MapName::Phase { m } => match Phases::new(m) {
-                Ok(map) => map.is_code(n),
-                Err(_) => false,
-            },
+            MapName::Aff { m, a, b, c, d } => {
+                Affine::new(m, a, b, c, d).is_ok_and(|map| map.is_code(n))
+            }
+            MapName::Phase { m } => Phases::new(m).is_ok_and(|map| map.is_code(n)),
         }
     }
 }
@@ -90,14 +89,25 @@ pub struct RowFile {
 }
 
 // Which line is refused, and why. Lines are counted from 1; line 0 is the whole text.
-#[derive(Clone, Copy)]
+// Kept: line 0 in place of an Option, since the format prints this 0.
+#[derive(Clone, Copy, PartialEq, Eq, Debug)]
 pub struct Fault {
     pub line: u32,
     pub refusal: Refusal,
 }
 
+impl fmt::Display for Fault {
+    ghost output = { λ f. Some (fault_line f) };
+
+    fn fmt<W: fmt::Write>(&self, f: &mut fmt::Formatter<W>) -> fmt::Result {
+        let line = self.line;
+        let number = self.refusal.number();
+        write!(f, "!\t{line}\t{number}")
+    }
+}
+
 // Why a text is not read: it is faulty, or there is no memory for the file.
-#[derive(Clone, Copy)]
+#[derive(Clone, Copy, PartialEq, Eq, Debug)]
 pub enum ReadError {
     Fault(Fault),
     Memory,

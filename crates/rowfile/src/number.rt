@@ -1,5 +1,7 @@
 // Numbers in decimal.
-ghost use Rattle.std.specs.Prelude.{◌+◌, ◌<◌, ◌∷◌};
+ghost use Rattle.std.specs.Prelude.{◌<◌, ◌≤◌, length};
+ghost use Rattle.std.specs.Option.{SomeIff};
+ghost use Rattle.std.specs.Str.Parse.{IsNumeral, digits_value};
 ghost use Rattle.rowfile.specs.Lines.{ReadsNumber};
 
 // The field breaks the number rule.
@@ -15,25 +17,21 @@ pub fn number(field: &[u8]) -> Result<u32, BadNumber>
     };
     match *first {
         b'0' if rest.is_empty() => Ok(0),
-        b'1'..=b'9' => more_digits(*first - b'0', rest),
+        b'1'..=b'9' => value(field).ok_or(BadNumber),
         _ => Err(BadNumber),
     }
 }
 
-// The number of the digit `first`, which is not 0, and of the digits `rest` behind it.
-fn more_digits(first: u8, rest: &[u8]) -> Result<u32, BadNumber>
-    requires { (0 < first) × (first < 10) }
-    ensures { ReadsNumber ((48 + first) ∷ rest.now) result }
+// The number of the digits, if they are digits and it is no larger than a `u32`.
+// Kept: a loop, since `parse` wants a `str`: to make one and to parse it took reading from 0.9 to 1.2 times plain Rust's instructions.
+fn value(digits: &[u8]) -> Option<u32>
+    requires { 0 < length digits.now }
+    ensures { SomeIff result (IsNumeral 10 digits.now × (digits_value 10 digits.now ≤ 4294967295)) (digits_value 10 digits.now) }
 {
-    let mut value = u64::from(first);
-    for b in rest {
-        if *b < b'0' || *b > b'9' {
-            return Err(BadNumber);
-        }
-        value = value * 10 + u64::from(*b - b'0');
-        if value > 4_294_967_295 {
-            return Err(BadNumber);
-        }
+    let mut value = 0u32;
+    for digit in digits {
+        let digit = char::from(*digit).to_digit(10)?;
+        value = value.checked_mul(10)?.checked_add(digit)?;
     }
-    Ok(value as u32)
+    Some(value)
 }

@@ -1,11 +1,9 @@
 // The text, line by line.
 ghost use Rattle.rowfile.specs.Lines.{fields};
 ghost use Rattle.rowfile.specs.Reading.{Accepts, Reads, Rejects};
-ghost use Rattle.rowfile.specs.Stepping.{Ends, Places, Takes, placed};
-ghost use Rattle.std.specs.Prelude.{◌≡◌};
+ghost use Rattle.rowfile.specs.Stepping.{Ends, Takes};
 
-use crate::fields::until;
-use crate::file::{Command, Fault, ReadError, RowFile, Stage};
+use crate::file::{Command, ReadError, RowFile, Stage};
 use crate::lines::{LineError, Record, command, heading, recognize, row_codes};
 use exchange::Refusal;
 use std::alloc::Global;
@@ -13,38 +11,8 @@ use std::alloc::Global;
 // The most bytes that a text has.
 pub const MAX_BYTES: usize = 32768;
 
-// An error of a line, with the number of that line.
-#[derive(Clone, Copy)]
-struct Placed {
-    line: u32,
-    error: LineError,
-}
-
-impl From<Placed> for ReadError {
-    ghost from_gives = { λ e r. r ≡ placed e };
-
-    fn from(e: Placed) -> ReadError {
-        match e.error {
-            LineError::Refused(refusal) => ReadError::Fault(Fault {
-                line: e.line,
-                refusal,
-            }),
-            LineError::Memory => ReadError::Memory,
-        }
-    }
-}
-
-// Names the line of an error.
-fn at_line(line: u32, r: Result<(), LineError>) -> Result<(), Placed>
-    ensures { Places line r result }
-{
-    match r {
-        Ok(()) => Ok(()),
-        Err(error) => Err(Placed { line, error }),
-    }
-}
-
 // What the lines read so far say.
+// Kept: codes and commands beside the stage: `recognize` takes the stage by copy, and with vectors in its cases every line would move them out and in.
 #[derive(Drop)]
 struct Reader {
     stage: Stage,
@@ -83,9 +51,9 @@ impl Reader {
         Ok(())
     }
 
-    // The file, if the text may end here before `line`.
-    fn finish(self, line: u32) -> Result<RowFile, ReadError>
-        ensures { Ends self line result }
+    // The file, if the text may end here.
+    fn finish(self) -> Result<RowFile, Refusal>
+        ensures { Ends self result }
     {
         match self.stage {
             Stage::Commands(heading) => Ok(RowFile {
@@ -93,10 +61,7 @@ impl Reader {
                 codes: self.codes,
                 commands: self.commands,
             }),
-            _ => Err(ReadError::Fault(Fault {
-                line,
-                refusal: Refusal::BadForm,
-            })),
+            _ => Err(Refusal::BadForm),
         }
     }
 }
@@ -108,30 +73,27 @@ pub fn read(heap: Global, text: &[u8]) -> Result<RowFile, ReadError>
     ensures rejects { Rejects text.now result }
 {
     if text.len() > MAX_BYTES {
-        return Err(ReadError::Fault(Fault {
-            line: 0,
-            refusal: Refusal::TooLong,
-        }));
+        return Err(LineError::Refused(Refusal::TooLong).at(0));
     }
     let mut reader = Reader {
         stage: Stage::Map,
         codes: Vec::new(heap),
         commands: Vec::new(heap),
     };
-    let mut line = 0;
+    // Kept: two counts by hand, since a fault at the end names the line past the last, and an offset is a sum of lengths.
+    let mut line = 1;
     let mut offset = 0;
-    while offset < text.len() {
+    for ended in text.split_inclusive(|b| *b == b'\n') {
+        let [bytes @ .., b'\n'] = ended else {
+            return Err(LineError::Refused(Refusal::BadForm).at(line));
+        };
+        reader
+            .read_line(heap, bytes, line, offset)
+            .map_err(|error| error.at(line))?;
         line += 1;
-        let rest = &text[offset..];
-        let length = until(rest, b'\n');
-        if length == rest.len() {
-            return Err(ReadError::Fault(Fault {
-                line,
-                refusal: Refusal::BadForm,
-            }));
-        }
-        at_line(line, reader.read_line(heap, &rest[..length], line, offset))?;
-        offset += length + 1;
+        offset += ended.len();
     }
-    reader.finish(line + 1)
+    reader
+        .finish()
+        .map_err(|refusal| LineError::Refused(refusal).at(line))
 }

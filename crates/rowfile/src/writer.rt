@@ -1,10 +1,10 @@
 // The text of a file, written into memory that the caller hands over.
-ghost use Rattle.std.specs.Prelude.{◌≡◌, ◌+◌, ◌^◌, ◌<◌, min, [], ◌∷◌, map as each, length, decimal, MatchBool, MatchResult};
+ghost use Rattle.std.specs.Prelude.{◌≡◌, ◌+◌, ◌^◌, ◌<◌, min, [], ◌∷◌, ◌++◌, map as each, length, decimal, MatchBool, MatchResult};
 ghost use Rattle.exchange.specs.declared.refusal.Refusal.TheVariants.{NoElement};
 ghost use Rattle.rowfile.specs.Faults.{Breaks};
-ghost use Rattle.rowfile.specs.Files.{KeepsLine, KeepsLines, name_word, parameters, rowed, side_word, text_of, written};
+ghost use Rattle.rowfile.specs.Files.{KeepsLine, KeepsLines, rowed, text_of, written};
 ghost use Rattle.rowfile.specs.Lines.{led, line_of};
-ghost use Rattle.rowfile.specs.Writing.{Lays, Misfit, Strays, WritesFile, command_line, commands_text, filed};
+ghost use Rattle.rowfile.specs.Writing.{Appends, Lays, Misfit, Strays, WritesFile, command_line, commands_text, file_in, filed};
 ghost use Rattle.rowfile.specs.declared.file.Stage.TheVariants.{Commands, Map, Row};
 ghost use Rattle.std.specs.List.{AllByRecursion};
 
@@ -12,6 +12,8 @@ use crate::file::{Command, Fault, Heading, MapName, Side};
 use crate::lines::MAX_CODES;
 use crate::reader::MAX_BYTES;
 use exchange::Refusal;
+
+// Kept: the rules of a line stand here and in the reader: it stops at the first field that breaks one, and here there are values.
 
 // Whether the command keeps the rule for codes.
 fn holds(heading: Heading, command: Command) -> bool
@@ -23,16 +25,15 @@ fn holds(heading: Heading, command: Command) -> bool
     }
 }
 
+// Kept: the heading and what it rules as two parameters, here, above and below: methods of Contents would be handed the rest too.
 fn check_row(heading: Heading, codes: &[u32]) -> Result<(), Refusal>
     ensures { MatchResult result (λ _. KeepsLine (Row heading) codes.now) (Breaks (Row heading) codes.now) }
 {
     if codes.len() > MAX_CODES {
         return Err(Refusal::RowFull);
     }
-    for code in codes {
-        if !heading.map.is_code(*code) {
-            return Err(Refusal::NoElement);
-        }
+    if !codes.iter().all(|code| heading.map.is_code(*code)) {
+        return Err(Refusal::NoElement);
     }
     Ok(())
 }
@@ -41,183 +42,166 @@ fn check_row(heading: Heading, codes: &[u32]) -> Result<(), Refusal>
 fn command_line(place: usize) -> u32
     ensures { result ≡ min (place + 3) 4294967295 }
 {
-    if place < 4_294_967_292 {
-        place as u32 + 3
-    } else {
-        4_294_967_295
-    }
+    u32::try_from(place.saturating_add(3)).unwrap_or(u32::MAX)
 }
 
 fn check_commands(heading: Heading, commands: &[Command]) -> Result<(), Fault>
     ensures { MatchResult result (λ _. AllByRecursion (KeepsLine (Commands heading)) commands.now) (Strays heading commands.now) }
 {
-    for (i, command) in commands.iter().enumerate() {
-        if !holds(heading, *command) {
-            return Err(Fault {
-                line: command_line(i),
-                refusal: Refusal::NoElement,
-            });
+    let stray = commands
+        .iter()
+        .position(|command| !holds(heading, *command));
+    match stray {
+        Some(place) => Err(Fault {
+            line: command_line(place),
+            refusal: Refusal::NoElement,
+        }),
+        None => Ok(()),
+    }
+}
+
+// Memory that a text is laid into, as far as there is room, and the place behind what is laid.
+// Kept: no `fmt::Write`, which tells nothing of a writer after an error and cannot tell that there is none, so that a text laid by `write!` could not be answered for.
+#[derive(Drop)]
+struct Sink<'a> {
+    out: &'a mut [u8],
+    at: usize,
+}
+
+// Kept: the `requires` of each method that the count cannot overflow, since how much may come depends on what is laid.
+impl Sink<'_> {
+    // Kept: byte by byte, since the room may end among them: a copy of the part that fits needs both bounds besides the count.
+    fn bytes(&mut self, bytes: &[u8])
+        requires { self.old.at + length bytes.now < 2 ^ 64 }
+        ensures { Appends self.old bytes.now self.new }
+    {
+        for byte in bytes {
+            if self.at < self.out.len() {
+                self.out[self.at] = *byte;
+            }
+            self.at += 1;
         }
     }
-    Ok(())
-}
 
-// The first fault of a file by its rules, the length of its text apart.
-fn check(heading: Heading, codes: &[u32], commands: &[Command]) -> Result<(), Fault>
-    ensures { MatchResult result (λ _. KeepsLines (rowed (filed heading codes.now commands.now))) (Misfit (filed heading codes.now commands.now)) }
-{
-    if !heading.map.parameters_hold() {
-        return Err(Fault {
-            line: 1,
-            refusal: Refusal::BadParameters,
-        });
+    // Lays the digits of a number.
+    // Kept: digits by hand, since the library writes them into a `String` or by a `fmt::Write`, which cannot promise that it never fails.
+    fn number(&mut self, n: u32)
+        requires { self.old.at + length (decimal n) < 2 ^ 64 }
+        ensures { Appends self.old (decimal n) self.new }
+    {
+        if n >= 10 {
+            self.number(n / 10);
+        }
+        self.bytes(&[b'0' + (n % 10) as u8]);
     }
-    if let Err(refusal) = check_row(heading, codes) {
-        return Err(Fault { line: 2, refusal });
+
+    // Lays numbers, each behind a tab.
+    fn numbers(&mut self, numbers: &[u32])
+        requires { self.old.at + length (led 9 (each decimal numbers.now)) < 2 ^ 64 }
+        ensures { Appends self.old (led 9 (each decimal numbers.now)) self.new }
+    {
+        for n in numbers {
+            self.bytes(b"\t");
+            self.number(*n);
+        }
     }
-    check_commands(heading, commands)
-}
 
-// Lays a byte at a place, if there is room, and answers the place behind it.
-fn put(out: &mut [u8], at: usize, byte: u8) -> usize
-    requires { at + 1 < 2 ^ 64 }
-    ensures { Lays out.old at (byte ∷ []) out.new result }
-{
-    if at < out.len() {
-        out[at] = byte;
+    // Lays the rest of a line: a word and numbers.
+    fn line(&mut self, word: &[u8], numbers: &[u32])
+        requires { self.old.at + length (line_of (word.now ∷ each decimal numbers.now)) + 1 < 2 ^ 64 }
+        ensures { Appends self.old (line_of (word.now ∷ each decimal numbers.now) ++ 10 ∷ []) self.new }
+    {
+        self.bytes(word);
+        self.numbers(numbers);
+        self.bytes(b"\n");
     }
-    at + 1
-}
 
-fn put_word(out: &mut [u8], at: usize, word: &[u8]) -> usize
-    requires { at + length word.now < 2 ^ 64 }
-    ensures { Lays out.old at word.now out.new result }
-{
-    let mut at = at;
-    for byte in word {
-        at = put(out, at, *byte);
+    fn heading(&mut self, heading: Heading)
+        requires { self.old.at < 2 ^ 63 }
+        ensures { Appends self.old (line_of (written Map heading) ++ 10 ∷ []) self.new }
+    {
+        match heading.side {
+            Side::Left => self.bytes(b"map\tL\t"),
+            Side::Right => self.bytes(b"map\tR\t"),
+        }
+        match heading.map {
+            MapName::Cap => self.line(b"cap", &[]),
+            MapName::Perm => self.line(b"perm", &[]),
+            MapName::Aff { m, a, b, c, d } => self.line(b"aff", &[m, a, b, c, d]),
+            MapName::Phase { m } => self.line(b"phase", &[m]),
+        }
     }
-    at
-}
 
-fn put_number(out: &mut [u8], at: usize, n: u32) -> usize
-    requires { at + length (decimal n) < 2 ^ 64 }
-    ensures { Lays out.old at (decimal n) out.new result }
-{
-    let at = if n < 10 {
-        at
-    } else {
-        put_number(out, at, n / 10)
-    };
-    put(out, at, b'0' + (n % 10) as u8)
-}
-
-// Lays numbers, each behind a tab.
-fn put_numbers(out: &mut [u8], at: usize, numbers: &[u32]) -> usize
-    requires { at + length (led 9 (each decimal numbers.now)) < 2 ^ 64 }
-    ensures { Lays out.old at (led 9 (each decimal numbers.now)) out.new result }
-{
-    let mut at = at;
-    for n in numbers {
-        at = put(out, at, b'\t');
-        at = put_number(out, at, *n);
+    fn command(&mut self, command: Command)
+        requires { self.old.at < 2 ^ 63 }
+        ensures { Appends self.old (command_line command ++ 10 ∷ []) self.new }
+    {
+        match command {
+            Command::Sweep(code) => self.line(b"S", &[code]),
+            Command::Exchange(place) => self.line(b"X", &[place]),
+            Command::ExchangeBack(place) => self.line(b"Y", &[place]),
+            Command::Raise(kind) => self.line(b"N", &[kind]),
+            Command::TakeBack => self.line(b"B", &[]),
+            Command::Print => self.line(b"P", &[]),
+        }
     }
-    at
-}
 
-fn side_letter(side: Side) -> u8
-    ensures { result ∷ [] ≡ side_word side }
-{
-    match side {
-        Side::Left => b'L',
-        Side::Right => b'R',
+    fn commands(&mut self, commands: &[Command])
+        requires { self.old.at + length (commands_text commands.now) < 2 ^ 63 }
+        ensures { Appends self.old (commands_text commands.now) self.new }
+    {
+        for command in commands {
+            self.command(*command);
+        }
     }
-}
 
-fn map_word(map: MapName) -> &'static [u8]
-    ensures { result.now ≡ name_word map }
-{
-    match map {
-        MapName::Cap => b"cap",
-        MapName::Perm => b"perm",
-        MapName::Aff { .. } => b"aff",
-        MapName::Phase { .. } => b"phase",
+    fn text(&mut self, contents: Contents<'_>)
+        requires { (self.old.at ≡ 0) × (length (text_of (file_in contents)) < 2 ^ 63) }
+        ensures { Appends self.old (text_of (file_in contents.entry)) self.new }
+    {
+        self.heading(contents.heading);
+        self.line(b"row", contents.codes);
+        self.commands(contents.commands);
     }
 }
 
-// Lays a map's parameters, each behind a tab.
-fn put_parameters(out: &mut [u8], at: usize, map: MapName) -> usize
-    requires { at < 2 ^ 63 }
-    ensures { Lays out.old at (led 9 (each decimal (parameters map))) out.new result }
-{
-    match map {
-        MapName::Cap | MapName::Perm => at,
-        MapName::Aff { m, a, b, c, d } => put_numbers(out, at, &[m, a, b, c, d]),
-        MapName::Phase { m } => put_numbers(out, at, &[m]),
+// What a file says, borrowed.
+#[derive(Clone, Copy)]
+struct Contents<'a> {
+    heading: Heading,
+    codes: &'a [u32],
+    commands: &'a [Command],
+}
+
+impl Contents<'_> {
+    // The first fault by the rules, the length of the text apart.
+    fn check(self) -> Result<(), Fault>
+        ensures { MatchResult result (λ _. KeepsLines (rowed (file_in self.entry))) (Misfit (file_in self.entry)) }
+    {
+        if !self.heading.map.parameters_hold() {
+            return Err(Fault {
+                line: 1,
+                refusal: Refusal::BadParameters,
+            });
+        }
+        check_row(self.heading, self.codes).map_err(|refusal| Fault { line: 2, refusal })?;
+        check_commands(self.heading, self.commands)
     }
-}
 
-fn put_heading(out: &mut [u8], heading: Heading) -> usize
-    ensures { Lays out.old 0 (line_of (written Map heading)) out.new result }
-{
-    let at = put_word(out, 0, b"map\t");
-    let at = put(out, at, side_letter(heading.side));
-    let at = put(out, at, b'\t');
-    let at = put_word(out, at, map_word(heading.map));
-    put_parameters(out, at, heading.map)
-}
-
-// Lays a letter and the number behind it.
-fn put_letter(out: &mut [u8], at: usize, letter: u8, n: u32) -> usize
-    requires { at < 2 ^ 63 }
-    ensures { Lays out.old at (letter ∷ (9 ∷ decimal n)) out.new result }
-{
-    let at = put(out, at, letter);
-    let at = put(out, at, b'\t');
-    put_number(out, at, n)
-}
-
-fn put_command(out: &mut [u8], at: usize, command: Command) -> usize
-    requires { at < 2 ^ 63 }
-    ensures { Lays out.old at (command_line command) out.new result }
-{
-    match command {
-        Command::Sweep(code) => put_letter(out, at, b'S', code),
-        Command::Exchange(place) => put_letter(out, at, b'X', place),
-        Command::ExchangeBack(place) => put_letter(out, at, b'Y', place),
-        Command::Raise(kind) => put_letter(out, at, b'N', kind),
-        Command::TakeBack => put(out, at, b'B'),
-        Command::Print => put(out, at, b'P'),
+    // Lays the whole text as far as there is room, and answers its length.
+    fn lay(self, out: &mut [u8]) -> usize
+        requires { length (text_of (file_in self)) < 2 ^ 63 }
+        ensures { Lays out.old 0 (text_of (file_in self.entry)) out.new result }
+    {
+        let mut sink = Sink { out, at: 0 };
+        sink.text(self);
+        sink.at
     }
-}
-
-// Lays the lines of commands.
-fn put_commands(out: &mut [u8], at: usize, commands: &[Command]) -> usize
-    requires { at + length (commands_text commands.now) < 2 ^ 63 }
-    ensures { Lays out.old at (commands_text commands.now) out.new result }
-{
-    let mut at = at;
-    for command in commands {
-        at = put_command(out, at, *command);
-        at = put(out, at, b'\n');
-    }
-    at
-}
-
-// Lays the whole text as far as there is room, and answers its length.
-fn put_text(out: &mut [u8], heading: Heading, codes: &[u32], commands: &[Command]) -> usize
-    requires { length (text_of (filed heading codes.now commands.now)) < 2 ^ 63 }
-    ensures { Lays out.old 0 (text_of (filed heading codes.now commands.now)) out.new result }
-{
-    let at = put_heading(out, heading);
-    let at = put_word(out, at, b"\nrow");
-    let at = put_numbers(out, at, codes);
-    let at = put(out, at, b'\n');
-    put_commands(out, at, commands)
 }
 
 // Writes the text of a file to the start of `out` and answers its length.
 // All is checked before a byte is written.
+// Kept: memory handed over and the length answered: the function is public, and memory past the text is promised untouched.
 pub fn write(
     heading: Heading,
     codes: &[u32],
@@ -226,22 +210,27 @@ pub fn write(
 ) -> Result<usize, Fault>
     ensures { WritesFile (filed heading codes.now commands.now) out.old result out.new }
 {
-    check(heading, codes, commands)?;
+    let contents = Contents {
+        heading,
+        codes,
+        commands,
+    };
+    contents.check()?;
+
+    let too_long = Fault {
+        line: 0,
+        refusal: Refusal::TooLong,
+    };
 
     // a command takes two bytes or more, so this many are too long whatever they say, and the length below cannot overflow
     if commands.len() > MAX_BYTES {
-        return Err(Fault {
-            line: 0,
-            refusal: Refusal::TooLong,
-        });
+        return Err(too_long);
     }
-    let length = put_text(&mut [], heading, codes, commands);
+    // Kept: laid twice by one function, first into no room for its length: a walk that only counts would be a second text to prove the same.
+    let length = contents.lay(&mut []);
     if length > MAX_BYTES || length > out.len() {
-        return Err(Fault {
-            line: 0,
-            refusal: Refusal::TooLong,
-        });
+        return Err(too_long);
     }
-    put_text(out, heading, codes, commands);
+    contents.lay(out);
     Ok(length)
 }

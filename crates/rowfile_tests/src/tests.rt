@@ -1,19 +1,27 @@
-// A verdict is a line and a number; an accepted text has 0 and 0.
 use exchange::Refusal;
-use rowfile::{Command, Heading, MapName, ReadError, Side, read, rewrite, write};
-use std::alloc::Global;
+use rowfile::{Command, Fault, Heading, MapName, ReadError, Side, read, rewrite, write};
+use std::alloc::{AllocError, Global};
 use std::test::Fail;
 
-fn verdict(heap: Global, text: &[u8]) -> (u32, u8) {
+// What a text is refused for: the line and the number.
+// Kept: refusals as numbers, since tests keep their expected values; and three tables with a loop each, since an assertion may stand in a test only.
+type Verdict = Result<(), (u32, u8)>;
+
+fn told(fault: Fault) -> (u32, u8) {
+    (fault.line, fault.refusal.number())
+}
+
+// Want of memory is no verdict.
+fn verdict(heap: Global, text: &[u8]) -> Result<Verdict, AllocError> {
     match read(heap, text) {
-        Ok(_) => (0, 0),
-        Err(ReadError::Fault(fault)) => (fault.line, fault.refusal.number()),
-        Err(ReadError::Memory) => (0, 255),
+        Ok(_) => Ok(Ok(())),
+        Err(ReadError::Fault(fault)) => Ok(Err(told(fault))),
+        Err(ReadError::Memory) => Err(AllocError),
     }
 }
 
 #[test]
-fn accepted(rt: HostRuntime) {
+fn accepted(rt: HostRuntime) -> Result<(), Fail> {
     for text in [
         "map\tL\tcap\nrow\n",
         "map\tL\tcap\nrow\t256\t65535\nX\t4294967295\nY\t0\nN\t4294967295\nB\nP\n",
@@ -21,12 +29,13 @@ fn accepted(rt: HostRuntime) {
         "map\tL\taff\t10\t3\t5\t7\t5\nrow\t0\t9\nS\t9\n",
         "map\tR\tphase\t65535\nrow\t65536\t16777214\n",
     ] {
-        assert_eq!(rt; verdict(rt.alloc(), text.as_bytes()), (0, 0), "{}", text);
+        assert_eq!(rt; verdict(rt.alloc(), text.as_bytes())?, Ok(()), "{}", text);
     }
+    Ok(())
 }
 
 #[test]
-fn headings(rt: HostRuntime) {
+fn headings(rt: HostRuntime) -> Result<(), Fail> {
     for (text, number) in [
         ("", 2),
         ("map\tL\tcap", 2),
@@ -54,12 +63,13 @@ fn headings(rt: HostRuntime) {
         ("map\tL\taff\t10\t3\t5\t7\t1\n", 4),
     ] {
         assert_eq!(rt;
-            verdict(rt.alloc(), text.as_bytes()),
-            (1, number),
+            verdict(rt.alloc(), text.as_bytes())?,
+            Err((1, number)),
             "{}",
             text
         );
     }
+    Ok(())
 }
 
 #[test]
@@ -82,8 +92,8 @@ fn rows(rt: HostRuntime) -> Result<(), Fail> {
         let mut text = String::from_str(rt.alloc(), "map\tL\tcap\n")?;
         text.push_str(row)?;
         assert_eq!(rt;
-            verdict(rt.alloc(), text.as_bytes()),
-            (2, number),
+            verdict(rt.alloc(), text.as_bytes())?,
+            Err((2, number)),
             "{}",
             row
         );
@@ -114,8 +124,8 @@ fn commands(rt: HostRuntime) -> Result<(), Fail> {
         let mut text = String::from_str(rt.alloc(), "map\tL\tcap\nrow\n")?;
         text.push_str(command)?;
         assert_eq!(rt;
-            verdict(rt.alloc(), text.as_bytes()),
-            (3, number),
+            verdict(rt.alloc(), text.as_bytes())?,
+            Err((3, number)),
             "{}",
             command
         );
@@ -125,35 +135,29 @@ fn commands(rt: HostRuntime) -> Result<(), Fail> {
 
 #[test]
 fn many_codes(rt: HostRuntime) -> Result<(), Fail> {
-    for (count, last, number) in [
-        (1023, "\t256\n", 0),
-        (1024, "\t256\n", 6),
-        (1024, "\t0\n", 6),
-        (1024, "\tx\n", 3),
-        (1023, "\t0\n", 5),
+    for (count, last, expected) in [
+        (1023, "\t256\n", Ok(())),
+        (1024, "\t256\n", Err((2, 6))),
+        (1024, "\t0\n", Err((2, 6))),
+        (1024, "\tx\n", Err((2, 3))),
+        (1023, "\t0\n", Err((2, 5))),
     ] {
         let mut text = String::from_str(rt.alloc(), "map\tL\tcap\nrow")?;
         for _ in 0..count {
             text.push_str("\t256")?;
         }
         text.push_str(last)?;
-        let line = if number == 0 { 0 } else { 2 };
-        assert_eq!(rt;
-            verdict(rt.alloc(), text.as_bytes()),
-            (line, number),
-            "{}",
-            last
-        );
+        assert_eq!(rt; verdict(rt.alloc(), text.as_bytes())?, expected, "{}", last);
     }
     Ok(())
 }
 
 #[test]
 fn many_bytes(rt: HostRuntime) -> Result<(), Fail> {
-    for (start, count, length, number) in [
-        ("map\tL\tcap\nrow\n", 16377, 32768, 0),
-        ("map\tL\tcap\nrow\nX\t10\n", 16375, 32769, 1),
-        ("map\tL\tcup\nrow\nX\t10\n", 16375, 32769, 1),
+    for (start, count, length, expected) in [
+        ("map\tL\tcap\nrow\n", 16377, 32768, Ok(())),
+        ("map\tL\tcap\nrow\nX\t10\n", 16375, 32769, Err((0, 1))),
+        ("map\tL\tcup\nrow\nX\t10\n", 16375, 32769, Err((0, 1))),
     ] {
         let mut text = String::from_str(rt.alloc(), start)?;
         for _ in 0..count {
@@ -161,8 +165,8 @@ fn many_bytes(rt: HostRuntime) -> Result<(), Fail> {
         }
         assert_eq!(rt; text.len(), length);
         assert_eq!(rt;
-            verdict(rt.alloc(), text.as_bytes()),
-            (0, number),
+            verdict(rt.alloc(), text.as_bytes())?,
+            expected,
             "{}",
             start
         );
@@ -170,7 +174,7 @@ fn many_bytes(rt: HostRuntime) -> Result<(), Fail> {
     Ok(())
 }
 
-fn refused(map: MapName, codes: &[u32], commands: &[Command], room: usize) -> (u32, u8) {
+fn refused(map: MapName, codes: &[u32], commands: &[Command], room: usize) -> Verdict {
     let mut out = [0; 32];
     let heading = Heading {
         side: Side::Left,
@@ -178,8 +182,8 @@ fn refused(map: MapName, codes: &[u32], commands: &[Command], room: usize) -> (u
     };
     let room = room.min(32);
     match write(heading, codes, commands, &mut out[..room]) {
-        Ok(_) => (0, 0),
-        Err(fault) => (fault.line, fault.refusal.number()),
+        Ok(_) => Ok(()),
+        Err(fault) => Err(told(fault)),
     }
 }
 
@@ -187,18 +191,18 @@ fn refused(map: MapName, codes: &[u32], commands: &[Command], room: usize) -> (u
 fn written(rt: HostRuntime) {
     assert_eq!(rt;
         refused(MapName::Cap, &[256], &[Command::Print], 20),
-        (0, 0)
+        Ok(())
     );
     assert_eq!(rt;
         refused(MapName::Cap, &[256], &[Command::Print], 19),
-        (0, 1)
+        Err((0, 1))
     );
-    assert_eq!(rt; refused(MapName::Phase { m: 0 }, &[0], &[], 0), (1, 4));
+    assert_eq!(rt; refused(MapName::Phase { m: 0 }, &[0], &[], 0), Err((1, 4)));
     assert_eq!(rt;
         refused(MapName::Cap, &[255], &[Command::Sweep(0)], 0),
-        (2, 5)
+        Err((2, 5))
     );
-    assert_eq!(rt; refused(MapName::Cap, &[0; 1025], &[], 0), (2, 6));
+    assert_eq!(rt; refused(MapName::Cap, &[0; 1025], &[], 0), Err((2, 6)));
     assert_eq!(rt;
         refused(
             MapName::Cap,
@@ -206,7 +210,7 @@ fn written(rt: HostRuntime) {
             &[Command::Print, Command::Sweep(0)],
             0,
         ),
-        (4, 5)
+        Err((4, 5))
     );
 }
 
@@ -215,18 +219,30 @@ fn rewritten(rt: HostRuntime) {
     let text = "map\tL\tcap\nrow\t256\nP\n";
     let mut out = [0; 20];
     assert!(rt; matches!(rewrite(rt.alloc(), text.as_bytes(), &mut out), Ok(20)));
-    assert!(rt; out[..] == text.as_bytes()[..]);
-    for (text, room, line, number) in [
-        (text, 19, 0, 1),
-        ("map\tL\tcap\nrow\t255\nP\n", 20, 2, 5),
-        ("map\tL\tcap\nrow\t255\nP\n", 0, 2, 5),
+    assert_eq!(rt; out[..], text.as_bytes()[..]);
+    for (text, room, expected) in [
+        (text, 19, (0, 1)),
+        ("map\tL\tcap\nrow\t255\nP\n", 20, (2, 5)),
+        ("map\tL\tcap\nrow\t255\nP\n", 0, (2, 5)),
     ] {
         let mut out = [7; 20];
-        let verdict = match rewrite(rt.alloc(), text.as_bytes(), &mut out[..room]) {
-            Err(ReadError::Fault(fault)) => (fault.line, fault.refusal.number()),
-            _ => (0, 0),
+        let fault = match rewrite(rt.alloc(), text.as_bytes(), &mut out[..room]) {
+            Err(ReadError::Fault(fault)) => Some(told(fault)),
+            _ => None,
         };
-        assert_eq!(rt; verdict, (line, number), "{}", text);
-        assert!(rt; out == [7; 20]);
+        assert_eq!(rt; fault, Some(expected), "{}", text);
+        assert_eq!(rt; out, [7; 20]);
     }
+}
+
+// A fault prints as one line.
+#[test]
+fn printed(rt: HostRuntime) -> Result<(), Fail> {
+    let fault = Fault {
+        line: 4294967295,
+        refusal: Refusal::WrongCarrier,
+    };
+    let text = fault.to_string(rt.alloc())?;
+    assert_eq!(rt; text.as_str(), "!\t4294967295\t13");
+    Ok(())
 }

@@ -1,9 +1,6 @@
 use Rattle.std.proofs.Common.{refl, arith}
-use Rattle.maps.proofs.Euclid.{inverse_found, not_coprime, remainders_start, remainders_step}
+use Rattle.maps.proofs.Euclid.{inverse_found, not_coprime, remainders_step}
 use Rattle.maps.proofs.affine.inverse_modulo.Goals as goal
-
-pub loop-r1-init : goal.loop-r1-init
-loop-r1-init c = remainders_start c.args.a c.args.m c.requires.1
 
 pub loop-r1-preserved : goal.loop-r1-preserved
 loop-r1-preserved c = remainders_step _ _ _ _ _ _ c.loop-r1.invariant (omega arith)

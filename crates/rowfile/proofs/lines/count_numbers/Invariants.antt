@@ -1,13 +1,8 @@
-use Rattle.std.proofs.Common.{◌≡◌, ℕ, ◌+◌, ◌≤◌, List, ◌++◌, map, length, decimal}
-use Rattle.rowfile.specs.Lines.{behind}
-use Rattle.rowfile.specs.Files.{Small}
+use Rattle.std.proofs.Common.{◌≡◌, ℕ, List, length}
+use Rattle.rowfile.specs.Judging.{fields_of}
+use Rattle.rowfile.proofs.Somes.{Read}
 use Rattle.rowfile.proofs.lines.count_numbers.Given as goal
 
--- the fields before `rest` write as many numbers as are counted
+-- the fields so far write as many numbers as are counted
 abbrev pub invariant-loop-field : goal.invariant-loop-field
-invariant-loop-field l =
-    ((ns : List ℕ) × (behind 9 l.fields ≡ map decimal ns ++ behind 9 l.rest) × Small ns × (length ns ≡ l.count))
-    × (l.count + length l.rest ≤ length l.fields)
-
-abbrev pub decreases-loop-field : goal.decreases-loop-field
-decreases-loop-field l = length l.rest
+invariant-loop-field l = (ns : List ℕ) × Read (fields_of l.fields) (fields_of l.field-iterator) ns × (length ns ≡ l.count)

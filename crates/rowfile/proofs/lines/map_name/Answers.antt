@@ -1,53 +1,31 @@
-use Rattle.std.proofs.Common.{map, decimal, ap, ◌∙◌, subst, arith}
+use Rattle.std.proofs.Common.{◌≡◌, List, map, length, decimal, Err, Result, ap, ◌∙◌, subst, arith}
 use Rattle.std.proofs.lemmas.Slice.Eq.{text_from_reads}
-use Rattle.std.proofs.lemmas.List.{nil_from_length}
 use Rattle.std.proofs.lemmas.Result.{err_from_is_err_and}
 use Rattle.std.proofs.lemmas.Bool.{ltb-true, ltb-false}
-use Rattle.rowfile.specs.Lines.{behind}
-use Rattle.rowfile.specs.Files.{Small}
-use Rattle.rowfile.specs.declared.file.MapName.TheVariants.{Cap, Perm, Aff, Phase}
-use Rattle.rowfile.proofs.Words.{misnamed, one, five}
+use Rattle.exchange.specs.declared.refusal.Refusal.{Refusal}
+use Rattle.rowfile.specs.Lines.{Bytes}
+use Rattle.rowfile.specs.Judging.{Misses, Named, fields_of}
+use Rattle.rowfile.specs.declared.file.MapName.{MapName}
+use Rattle.rowfile.specs.Files.{Small, name_word, parameters}
+use Rattle.rowfile.specs.declared.file.MapName.TheVariants.{Perm, Aff, Phase}
+use Rattle.rowfile.proofs.Words.{misnamed, one}
 use Rattle.rowfile.proofs.lines.map_name.Goals as goal
 
-pub returns-in_err-numbers-in-cap : goal.returns-in_err-numbers-in-cap
-returns-in_err-numbers-in-cap c =
-    let p = err_from_is_err_and c.from_residual.result c.from_residual.ensures.1 in
-    let q = text_from_reads c.args.name.now _ (omega (arith, ltb-true, ltb-false)) (omega arith, (omega arith, (omega arith, tt))) in
-    rw (p.1, p.2) (misnamed c.args.name.now (behind 9 c.args.fields.now) Cap _ q c.in_err-numbers-in-cap.ensures)
-
-pub returns-in_ok-numbers-in-cap : goal.returns-in_ok-numbers-in-cap
-returns-in_ok-numbers-in-cap c =
-    let h = c.in_ok-numbers-in-cap.ensures in
-    (text_from_reads c.args.name.now _ (omega (arith, ltb-true, ltb-false)) (omega arith, (omega arith, (omega arith, tt))), h.0 ∙ ap (map decimal) (nil_from_length _ h.2), tt)
+-- a name without the numbers that belong to it
+misses : (m : MapName) (w : Bytes) (fs : List Bytes) (e : Refusal) (r : Result MapName Refusal) → (x : Refusal) × (r ≡ Err x) × (x ≡ e) → w ≡ name_word m → Misses (length (parameters m)) fs e → Named w fs r
+misses m w fs e r p q h = rw (p.1, p.2) (misnamed w fs m e q h)
 
 pub returns-in_err-numbers-in-perm : goal.returns-in_err-numbers-in-perm
 returns-in_err-numbers-in-perm c =
-    let p = err_from_is_err_and c.from_residual-in_err-numbers-in-perm.result c.from_residual-in_err-numbers-in-perm.ensures.1 in
-    let q = text_from_reads c.args.name.now _ (omega (arith, ltb-true, ltb-false)) (omega arith, (omega arith, (omega arith, (omega arith, tt)))) in
-    rw (p.1, p.2) (misnamed c.args.name.now (behind 9 c.args.fields.now) Perm _ q c.in_err-numbers-in-perm.ensures)
-
-pub returns-in_ok-numbers-in-perm : goal.returns-in_ok-numbers-in-perm
-returns-in_ok-numbers-in-perm c =
-    let h = c.in_ok-numbers-in-perm.ensures in
-    (text_from_reads c.args.name.now _ (omega (arith, ltb-true, ltb-false)) (omega arith, (omega arith, (omega arith, (omega arith, tt)))), h.0 ∙ ap (map decimal) (nil_from_length _ h.2), tt)
+    misses Perm c.args.name.now (fields_of c.args.fields) _ _ (err_from_is_err_and c.from_residual-in_err-numbers-in-perm.result c.from_residual-in_err-numbers-in-perm.ensures.1) (text_from_reads c.args.name.now _ (omega (arith, ltb-true, ltb-false)) (omega arith, (omega arith, (omega arith, (omega arith, tt))))) c.in_err-numbers-in-perm.ensures
 
 pub returns-in_err-m-in-aff : goal.returns-in_err-m-in-aff
 returns-in_err-m-in-aff c =
-    let p = err_from_is_err_and c.from_residual-in_err-m-in-aff.result c.from_residual-in_err-m-in-aff.ensures.1 in
-    let q = text_from_reads c.args.name.now _ (omega (arith, ltb-true, ltb-false)) (omega arith, (omega arith, (omega arith, tt))) in
-    rw (p.1, p.2) (misnamed c.args.name.now (behind 9 c.args.fields.now) (Aff 0 0 0 0 0) _ q c.in_err-m-in-aff.ensures)
-
-pub returns-in_ok-m-in-aff : goal.returns-in_ok-m-in-aff
-returns-in_ok-m-in-aff c =
-    let h = c.in_ok-m-in-aff.ensures in
-    let e = five _ h.2 in
-    (text_from_reads c.args.name.now _ (omega (arith, ltb-true, ltb-false)) (omega arith, (omega arith, (omega arith, tt))), h.0 ∙ ap (map decimal) e, subst Small e h.1)
+    misses (Aff 0 0 0 0 0) c.args.name.now (fields_of c.args.fields) _ _ (err_from_is_err_and c.from_residual-in_err-m-in-aff.result c.from_residual-in_err-m-in-aff.ensures.1) (text_from_reads c.args.name.now _ (omega (arith, ltb-true, ltb-false)) (omega arith, (omega arith, (omega arith, tt)))) c.in_err-m-in-aff.ensures
 
 pub returns-in_err-m-in-phase : goal.returns-in_err-m-in-phase
 returns-in_err-m-in-phase c =
-    let p = err_from_is_err_and c.from_residual-in_err-m-in-phase.result c.from_residual-in_err-m-in-phase.ensures.1 in
-    let q = text_from_reads c.args.name.now _ (omega (arith, ltb-true, ltb-false)) (omega arith, (omega arith, (omega arith, (omega arith, (omega arith, tt))))) in
-    rw (p.1, p.2) (misnamed c.args.name.now (behind 9 c.args.fields.now) (Phase 0) _ q c.in_err-m-in-phase.ensures)
+    misses (Phase 0) c.args.name.now (fields_of c.args.fields) _ _ (err_from_is_err_and c.from_residual-in_err-m-in-phase.result c.from_residual-in_err-m-in-phase.ensures.1) (text_from_reads c.args.name.now _ (omega (arith, ltb-true, ltb-false)) (omega arith, (omega arith, (omega arith, (omega arith, (omega arith, tt)))))) c.in_err-m-in-phase.ensures
 
 pub returns-in_ok-m-in-phase : goal.returns-in_ok-m-in-phase
 returns-in_ok-m-in-phase c =

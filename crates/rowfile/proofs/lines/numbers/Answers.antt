@@ -1,42 +1,29 @@
-use Rattle.std.proofs.Common.{◌≡◌, ◌<◌, ◌++◌, map, length, take, decimal, refl, ap, ◌∙◌, subst, inr, arith, length-set}
+use Rattle.std.proofs.Common.{◌≡◌, ℕ, List, Bor, length, refl, inl, inr, arith}
 use lib.ListN.{length-replicate}
-use Rattle.std.proofs.lemmas.List.{take_more_set, take_all, append-nil}
+use Rattle.std.proofs.lemmas.Iterator.Consumers.{YieldsList-from_first, count_from_yields_List}
 use Rattle.std.proofs.lemmas.Result.{err_from_is_err_and}
-use Rattle.rowfile.specs.Lines.{behind}
-use Rattle.rowfile.specs.Files.{Small}
-use Rattle.rowfile.specs.Faults.{NoNumber}
-use Rattle.rowfile.proofs.Somes.{some_at, one_more}
+use Rattle.std.specs.Iterator.{Drains, YieldsFirstRef}
+use Rattle.rowfile.specs.Lines.{Bytes}
+use Rattle.rowfile.specs.declared.fields.Fields.{Fields}
+use Rattle.rowfile.specs.Judging.{fields_of}
+use Rattle.rowfile.proofs.Parts.{behind_short}
+use Rattle.rowfile.proofs.Somes.{read_none, read_bad}
 use Rattle.rowfile.proofs.lines.numbers.Goals as goal
 
-pub loop-field-init : goal.loop-field-init
-loop-field-init g c = (omega arith, length-replicate g.row.N 0, refl, tt)
+counted : (f : Fields) (n : ℕ) → ((xs : List (Bor Bytes)) × Drains (YieldsFirstRef fields_of) f xs × (n ≡ length xs)) → n ≡ length (fields_of f)
+counted f n h = count_from_yields_List f n h (YieldsList-from_first (λ x. x.now) fields_of (fields_of f) refl)
+
+pub count-requires-clause-fits : goal.count-requires-clause-fits
+count-requires-clause-fits g c = inl (omega (arith, behind_short 9 c.args.fields.bytes.now))
+
+pub loop-i-init : goal.loop-i-init
+loop-i-init g c =
+    let n = counted c.args.fields c.count.result c.count.ensures.ran in
+    let e = c.enumerate-i-items.ensures in
+    rw c.into_iter-i-iterator.ensures.into_iter_gives (rw (e.source, e.count) (read_none (fields_of c.args.fields), length-replicate g.row.N 0, omega arith))
 
 pub returns-in_err-values : goal.returns-in_err-values
-returns-in_err-values g c = let p = err_from_is_err_and c.from_residual.result c.from_residual.ensures.1 in
-    let fs = behind 9 c.args.fields.now in
-    let e = c.loop-field.invariant.2 ∙ ap (λ k. map decimal (take c.loop-field.count c.loop-field.values) ++ k) c.in-Some.ensures.0 in
-    let some = some_at NoNumber fs (map decimal (take c.loop-field.count c.loop-field.values)) _ _ e c.in_err-values.ensures in
-    rw (p.1, p.2) (inr (refl, omega arith, some))
-
-pub loop-field-preserved : goal.loop-field-preserved
-loop-field-preserved g c =
-    let xs = c.loop-field.values in
-    let i = c.loop-field.count in
-    let n = c.in_ok-values.field-0 in
-    let h = c.in-Some.ensures in
-    let l = ap length h.0 in
-    let q : i < length xs = omega arith in
-    let t = take_more_set xs i n q in
-    let m = one_more (behind 9 c.args.fields.now) (behind 9 c.in-Some.next.now) (take i xs) c.in-Some.field.now n (c.loop-field.invariant.2 ∙ ap (λ k. map decimal (take i xs) ++ k) h.0) c.loop-field.invariant.3 c.in_ok-values.ensures in
-    (omega arith, length-set xs i n ∙ c.loop-field.invariant.1, rw t m.0, rw t m.1)
-
-pub returns : goal.returns
-returns g c =
-    let xs = c.loop-field.values in
-    let r = c.in_default.ensures in
-    let l = ap length r in
-    let t : take c.loop-field.count xs ≡ xs = take_all c.loop-field.count xs (omega arith) in (
-      c.loop-field.invariant.2 ∙ (ap (λ k. map decimal (take c.loop-field.count xs) ++ k) r ∙ (append-nil (map decimal (take c.loop-field.count xs)) ∙ ap (map decimal) t)),
-      subst Small t c.loop-field.invariant.3,
-      c.loop-field.invariant.1,
-    )
+returns-in_err-values g c =
+    let n = counted c.args.fields c.count.result c.count.ensures.ran in
+    let p = err_from_is_err_and c.from_residual.result c.from_residual.ensures.1 in
+    rw (p.1, p.2) (inr (refl, omega arith, read_bad c.loop-i.invariant.0 c.in-Some.ensures.steps.0 c.in_err-values.ensures))

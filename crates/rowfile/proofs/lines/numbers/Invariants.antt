@@ -1,15 +1,11 @@
-use Rattle.std.proofs.Common.{◌≡◌, ◌+◌, ◌++◌, map, length, take, decimal}
-use Rattle.rowfile.specs.Lines.{behind}
-use Rattle.rowfile.specs.Files.{Small}
+use Rattle.std.proofs.Common.{◌≡◌, ◌+◌, length, take}
+use Rattle.rowfile.specs.Judging.{fields_of}
+use Rattle.rowfile.proofs.Somes.{Read}
 use Rattle.rowfile.proofs.lines.numbers.Given as goal
 
--- the values so far are what the fields before `rest` write
-abbrev pub invariant-loop-field : goal.invariant-loop-field
-invariant-loop-field g l =
-    (l.count + length (behind 9 l.rest) ≡ g.row.N)
+-- the values so far are what the fields so far write
+abbrev pub invariant-loop-i : goal.invariant-loop-i
+invariant-loop-i g l =
+    Read (fields_of l.fields) (fields_of l.i-iterator.iter) (take l.i-iterator.count l.values)
     × (length l.values ≡ g.row.N)
-    × (behind 9 l.fields ≡ map decimal (take l.count l.values) ++ behind 9 l.rest)
-    × Small (take l.count l.values)
-
-abbrev pub decreases-loop-field : goal.decreases-loop-field
-decreases-loop-field g l = length l.rest
+    × (l.i-iterator.count + length (fields_of l.i-iterator.iter) ≡ g.row.N)

@@ -1,9 +1,8 @@
-use Rattle.std.proofs.Common.{◌≡◌, ℕ, ◌+◌, ◌-◌, ◌<◌, List, [], ◌∷◌, length, get_or, take, drop, sym, ap, ◌∙◌, subst, arith, length-drop, length-take}
+use Rattle.std.proofs.Common.{◌≡◌, ℕ, ◌-◌, ◌<◌, List, [], ◌∷◌, length, get_or, take, drop, sym, ◌∙◌, arith, length-drop, length-take}
 use Rattle.std.proofs.lemmas.List.{nil_from_length}
 use Rattle.std.proofs.lemmas.Bool.{eqb-true, eqb-false, ltb-true, ltb-false}
 use Rattle.std.proofs.lemmas.Fmt.{decimal_digit}
-use Rattle.rowfile.specs.Lines.{ReadsNumber}
-use Rattle.rowfile.proofs.Numbers.{no_lead, first_rest}
+use Rattle.rowfile.proofs.Numbers.{no_lead, first_rest, valued}
 use Rattle.rowfile.proofs.number.number.Goals as goal
 
 alone : (k : ℕ) (ks : List ℕ) → k ≡ 48 → length ks ≡ 0 → k ∷ ks ≡ 48 ∷ []
@@ -20,11 +19,7 @@ returns-in-48 c =
     (omega arith, first_rest xs p ∙ (alone (get_or xs 0 0) (take (length xs - 1) (drop 1 xs)) c.in-48.is z ∙ sym (decimal_digit 0 (omega arith))))
 
 pub returns-in-49-to-57 : goal.returns-in-49-to-57
-returns-in-49-to-57 c =
-    let xs = c.args.field.now in
-    let p : 0 < length xs = omega (arith, ltb-true, ltb-false) in
-    let e : (48 + (get_or xs 0 0 - 48)) ∷ take (length xs - 1) (drop 1 xs) ≡ xs = ap (λ k. k ∷ take (length xs - 1) (drop 1 xs)) (omega arith) ∙ sym (first_rest xs p) in
-    subst (λ l. ReadsNumber l c.more_digits.result) e c.more_digits.ensures
+returns-in-49-to-57 c = rw c.ok_or.ensures.value (valued _ c.args.field.now c.value.result (omega arith) c.value.ensures)
 
 pub returns-in_default-first : goal.returns-in_default-first
 returns-in_default-first c = no_lead c.args.field.now (λ p l h. omega arith) (λ p e o. eqb-false _ 0 (sym c.if-is_empty.ensures) (simp (length-take, length-drop) (omega arith)))

@@ -1,78 +1,73 @@
-use Rattle.std.proofs.Common.{ℕ, ◌+◌, ◌++◌, map, length, drop, Err, vec_items, Result, sym, ap, ◌∙◌, subst, arith, length-drop}
-use Rattle.std.proofs.lemmas.List.{take_rest, length_push}
+use Rattle.std.proofs.Common.{◌≡◌, ◌==◌, length, Err, Result, MatchResult, sym, refl, length-append, ap, subst, arith, rules}
+use Rattle.std.proofs.lemmas.List.{nil_from_length}
+use Rattle.std.proofs.lemmas.Fn.{always_returns_same}
 use Rattle.std.proofs.lemmas.Result.{err_from_is_err_and, MatchResult-weaker}
-use Rattle.rowfile.specs.Lines.{Bytes, First, lines, line_of}
-use Rattle.rowfile.specs.Files.{lines_of}
+use Rattle.rowfile.specs.Lines.{Bytes}
+use Rattle.std.specs.Bool.{⊤}
+use Rattle.std.proofs.lemmas.Bool.{ltb-true, eqb-false}
 use Rattle.rowfile.specs.Faults.{Unready}
 use Rattle.rowfile.specs.Faults.Faulty.{too_long}
 use Rattle.rowfile.specs.Reading.{Reads, Accepts, Rejects, Refuses, file_of}
 use Rattle.rowfile.specs.Stepping.{said, place}
-use Rattle.exchange.specs.declared.refusal.Refusal.{Refusal}
 use Rattle.exchange.specs.declared.refusal.Refusal.TheVariants.{TooLong, BadForm}
 use Rattle.rowfile.specs.declared.file.ReadError.{ReadError}
 use Rattle.rowfile.specs.declared.file.ReadError.TheVariants.{Fault}
 use Rattle.rowfile.specs.declared.file.RowFile.{RowFile}
 use Rattle.rowfile.proofs.Exact.{only_file, only_fault}
-use Rattle.rowfile.proofs.Texts.{stage_so_far, takes_ok, takes_err, line_at, unended_line, refused_line, missing_line, whole_file, more_lines, follows_keeps, follows_lines}
+use Rattle.rowfile.proofs.Parts.{ended_line, unended_line}
+use Rattle.rowfile.proofs.Texts.{mapped, unread_so_far, before_more, refused_line, missing_line, whole_file, stage_so_far}
+use Rattle.rowfile.proofs.Texts.{unended_line as unended_text}
 use Rattle.rowfile.proofs.reader.read.Goals as goal
+use Rattle.rowfile.proofs.reader.read.Goals.{in_default-via-then-ended-lt1, in_default-via-else-ended-lt1+in_default-1}
 
 -- every answer that is right is the only one
-abbrev at : ℕ → Refusal → Result RowFile ReadError
-at n q = Err (Fault (record { line = n; refusal = q }))
-
 verdict : (t : Bytes) (r : Result RowFile ReadError) → Reads t r → record { says : Reads t r; accepts : Accepts t r; rejects : Rejects t r }
 verdict t r x = record { says = x; accepts = only_file t r x; rejects = only_fault t r x }
 
 pub returns-then-text-gt-MAX_BYTES : goal.returns-then-text-gt-MAX_BYTES
-returns-then-text-gt-MAX_BYTES c = verdict c.args.text.now (at 0 TooLong) (too_long c.if-text-gt-MAX_BYTES.true)
+returns-then-text-gt-MAX_BYTES c = rw c.at.ensures (verdict c.args.text.now (Err (Fault (record { line = 0; refusal = TooLong }))) (too_long c.if-text-gt-MAX_BYTES.true))
 
-pub returns-then-length-rest : goal.returns-then-length-rest
-returns-then-length-rest c =
-    let t = c.args.text.now in
-    let o = c.loop-offset.offset in
-    let i = c.loop-offset.invariant in
-    let e = take_rest t o in
-    let f = subst (λ k. First 10 k c.until-length.result) e c.until-length.ensures in
-    verdict t (at (c.loop-offset.line + 1) BadForm) (unended_line t (said c.loop-offset.reader) o c.if-text-gt-MAX_BYTES.false i.0 i.1 c.loop-offset.line i.2 c.until-length.result c.loop-offset-test.true f (simp length-drop (omega arith)))
+pub returns-in_default : goal.returns-in_default
+returns-in_default c =
+    let s = c.in-Some.ensures.steps in
+    let f = (s.1.2 (λ b. b == 10) (always_returns_same _ _ _ (λ a r q k. (search rules, refl)))).1 in
+    let i = c.loop-ended.invariant in
+    let l = unended_line c.loop-ended.ended-iterator.rest.now c.in-Some.ended.now c.next.new.self.rest.now s.1.0 s.0 s.1.1 f s.2 (λ e. elim c.in_default.branch [ in_default-via-then-ended-lt1 w ↦ omega (arith, ltb-true) | in_default-via-else-ended-lt1+in_default-1 w ↦ omega (arith, eqb-false) ]) in
+    rw c.at-in_default.ensures (verdict c.args.text.now (Err (Fault (record { line = c.loop-ended.line; refusal = BadForm }))) (unended_text i.0 c.if-text-gt-MAX_BYTES.false s.2 l))
 
-pub returns-in_err-at_line : goal.returns-in_err-at_line
-returns-in_err-at_line c =
+pub returns-in_err-map_err : goal.returns-in_err-map_err
+returns-in_err-map_err c =
+    let s = c.in-Some.ensures.steps in
+    let f = (s.1.2 (λ b. b == 10) (always_returns_same _ _ _ (λ a r q k. (search rules, refl)))).1 in
+    let i = c.loop-ended.invariant in
+    let l = ended_line c.loop-ended.ended-iterator.rest.now c.in-Some.ended.now c.next.new.self.rest.now s.1.0 s.0 s.1.1 f s.2 (omega arith) in
     let p = err_from_is_err_and c.from_residual.result c.from_residual.ensures.1 in
-    let t = c.args.text.now in
-    let o = c.loop-offset.offset in
-    let i = c.loop-offset.invariant in
-    let n = c.until-length.result in
-    let z = c.in_err-at_line.field-0.0 in
-    let q = takes_err c.loop-offset.reader c.read_line.new.self _ i.3 (c.loop-offset.line + 1) c.read_line.result z c.read_line.ensures c.in_err-at_line.ensures in
-    let l = line_at t o n c.until-length.ensures c.if-length-rest.false in
-    let r = refused_line t (said c.loop-offset.reader) o c.if-text-gt-MAX_BYTES.false i.0 i.1 c.loop-offset.line i.2 _ (drop (o + (n + 1)) t) z.error l.0 q.1 in
-    let x : Reads t c.from_residual.result = rw (p.1, p.2) (subst (λ k. Refuses t (place k z.error)) (sym q.0) r) in
-    verdict t c.from_residual.result x
+    let q : MatchResult c.map_err.result (λ x. ⊤) (Refuses c.args.text.now) = MatchResult-weaker c.map_err.result (mapped _ _ _ c.read_line.result c.map_err.result (c.read_line.ensures i.1) c.map_err.ensures.cases)
+    (λ x h. tt)
+    (λ z h.
+    let w : z ≡ place c.loop-ended.line h.0 = search (rules, h.2) in
+    rw w (refused_line i.0 c.if-text-gt-MAX_BYTES.false _ c.next.new.self.rest.now h.0 l (unread_so_far c.loop-ended.reader _ h.0 h.1))) in
+    let x : Reads c.args.text.now c.from_residual.result = rw (p.1, p.2) (rw c.in_err-map_err.was at q) in
+    verdict c.args.text.now c.from_residual.result x
 
-pub loop-offset-preserved : goal.loop-offset-preserved
-loop-offset-preserved c =
-    let t = c.args.text.now in
-    let o = c.loop-offset.offset in
-    let i = c.loop-offset.invariant in
-    let n = c.until-length.result in
-    let q = takes_ok c.loop-offset.reader c.read_line.new.self _ i.3 (c.loop-offset.line + 1) c.read_line.result c.in_ok-at_line.field-0 c.read_line.ensures c.in_ok-at_line.ensures in
-    let l = line_at t o n c.until-length.ensures c.if-length-rest.false in
-    let s = said c.loop-offset.reader in
-    let u = said c.read_line.new.self in (
-      more_lines s u _ (lines t) _ q.0 (i.0 ∙ ap (λ k. map line_of (lines_of s) ++ k) l.0),
-      follows_keeps s _ u q.0 i.1,
-      ap (λ k. k + 1) i.2 ∙ (sym (length_push (lines_of s) _) ∙ ap length (sym (follows_lines s _ u q.0))),
-      q.1,
-      omega (arith, l.1),
-      omega arith,
-    )
+pub loop-ended-preserved : goal.loop-ended-preserved
+loop-ended-preserved c =
+    let s = c.in-Some.ensures.steps in
+    let f = (s.1.2 (λ b. b == 10) (always_returns_same _ _ _ (λ a r q k. (search rules, refl)))).1 in
+    let i = c.loop-ended.invariant in
+    let l = ended_line c.loop-ended.ended-iterator.rest.now c.in-Some.ended.now c.next.new.self.rest.now s.1.0 s.0 s.1.1 f s.2 (omega arith) in
+    let q = rw c.in_ok-map_err.was at (mapped _ _ _ c.read_line.result c.map_err.result (c.read_line.ensures i.1) c.map_err.ensures.cases) in
+    let n = length-append c.in-Some.ended.now c.next.new.self.rest.now in
+    (before_more i.0 _ _ (said c.read_line.new.self) l q.0, q.1, omega (arith, ap length s.0), omega (arith, ap length s.0))
 
 pub returns : goal.returns
 returns c =
-    let t = c.args.text.now in
-    let o = c.loop-offset.offset in
-    let i = c.loop-offset.invariant in
-    let s = c.loop-offset.reader in
-    verdict t c.finish.result (MatchResult-weaker c.finish.result c.finish.ensures
-    (λ f h. whole_file t (said s) o c.if-text-gt-MAX_BYTES.false i.0 i.1 c.loop-offset.line i.2 (file_of f) c.loop-offset-test.false h)
-    (λ e h. subst (Refuses t) (sym h.1) (missing_line t (said s) o c.if-text-gt-MAX_BYTES.false i.0 i.1 c.loop-offset.line i.2 c.loop-offset-test.false (subst Unready (sym (stage_so_far s.stage (vec_items s.codes) (vec_items s.commands))) h.0))))
+    let i = c.loop-ended.invariant in
+    let e = nil_from_length _ c.in-None.ensures.steps.0 in
+    let q = mapped _ _ _ c.finish.result c.map_err-2.result c.finish.ensures c.map_err-2.ensures.cases in
+    verdict c.args.text.now c.map_err-2.result (MatchResult-weaker c.map_err-2.result q
+    (λ f h. whole_file i.0 c.if-text-gt-MAX_BYTES.false (file_of f) e h)
+    (λ z h.
+    let w : z ≡ Fault (record { line = c.loop-ended.line; refusal = h.0 }) = search (rules, h.2) in
+    let m = missing_line i.0 c.if-text-gt-MAX_BYTES.false e (subst Unready (sym (stage_so_far _ _ _)) h.1.0) in
+    rw (w, h.1.1) m))

@@ -11,10 +11,10 @@ returns-then-commands-gt-MAX_BYTES c =
     let b = text_bounds c.args.heading c.args.codes.now c.args.commands.now k in
     (no_room k (inl (omega (arith, b.0))) refl refl, refl)
 
-pub put_text-length-requires : goal.put_text-length-requires
-put_text-length-requires c = (text_bounds c.args.heading c.args.codes.now c.args.commands.now c.in_ok-check.ensures).1 c.if-commands-gt-MAX_BYTES.false
+pub lay-length-requires : goal.lay-length-requires
+lay-length-requires c = (text_bounds c.args.heading c.args.codes.now c.args.commands.now c.in_ok-check.ensures).1 c.if-commands-gt-MAX_BYTES.false
 
 pub returns : goal.returns
 returns c =
-    laid_file (filed c.args.heading c.args.codes.now c.args.commands.now) c.args.out.now [] c.put_text.new.out c.put_text-length.result c.put_text.result _
-    c.in_ok-check.ensures c.put_text-length.ensures c.if-length-gt-MAX_BYTES.false c.if-length-out.false c.put_text.ensures
+    laid_file (filed c.args.heading c.args.codes.now c.args.commands.now) c.args.out.now [] c.lay.new.out c.lay-length.result c.lay.result _
+    c.in_ok-check.ensures c.lay-length.ensures c.if-length-gt-MAX_BYTES.false c.if-length-out.false c.lay.ensures

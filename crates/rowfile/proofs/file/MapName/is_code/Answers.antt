@@ -1,8 +1,9 @@
-use Rattle.std.proofs.Common.{sym, ap, ◌∙◌}
+use Rattle.std.proofs.Common.{◌≡◌, false, MatchResult, sym, ap, ◌∙◌, rules}
+use Rattle.std.proofs.lemmas.Result.{MatchResult-weaker}
 use Rattle.maps.specs.Affine.{affine_map}
 use Rattle.maps.specs.Phases.{phase_map}
 use Rattle.rowfile.specs.Headings.{has_code}
-use Rattle.rowfile.proofs.Named.{both_true, first_false}
+use Rattle.rowfile.proofs.Named.{made_code}
 use Rattle.rowfile.proofs.file.MapName.is_code.Goals as goal
 
 pub returns-in-Cap : goal.returns-in-Cap
@@ -13,22 +14,18 @@ pub returns-in-Perm : goal.returns-in-Perm
 unfolding has_code
 returns-in-Perm c = c.is_code-in-Perm.ensures ∙ ap (λ m. has_code m c.args.n) (sym c.in-Perm.is)
 
-pub returns-in-Ok : goal.returns-in-Ok
+pub returns-in-Aff : goal.returns-in-Aff
 unfolding has_code
-returns-in-Ok c =
-    let h = c.in-Ok.ensures.makes in
-    both_true _ _ _ h.0 (c.is_code-in-Ok.ensures ∙ ap (λ m. (affine_map m 0 0 0 0).elements.codes c.args.n) h.1.0) ∙ ap (λ m. has_code m c.args.n) (sym c.in-Aff.is)
+returns-in-Aff c =
+    let n = c.args.n in
+    let b = c.is_ok_and.result in
+    let m : MatchResult c.new.result (λ s. b ≡ (affine_map s.f.modulus 0 0 0 0).elements.codes n) (λ e. b ≡ false) = MatchResult-weaker c.new.result c.is_ok_and.ensures (λ s p. search rules) (λ e p. p) in
+    made_code _ _ _ c.new.result b _ c.new.ensures.makes m (λ s h. ap (λ k. (affine_map k 0 0 0 0).elements.codes n) h.0) ∙ ap (λ m. has_code m n) (sym c.in-Aff.is)
 
-pub returns-in-Err : goal.returns-in-Err
+pub returns-in-Phase : goal.returns-in-Phase
 unfolding has_code
-returns-in-Err c = first_false _ _ c.in-Err.ensures.makes.0 ∙ ap (λ m. has_code m c.args.n) (sym c.in-Aff.is)
-
-pub returns-in-Ok-new : goal.returns-in-Ok-new
-unfolding has_code
-returns-in-Ok-new c =
-    let h = c.in-Ok-new.ensures in
-    both_true _ _ _ h.0 (c.is_code-in-Ok-new.ensures ∙ ap (λ m. (phase_map m).elements.codes c.args.n) h.1) ∙ ap (λ m. has_code m c.args.n) (sym c.in-Phase.is)
-
-pub returns-in-Err-new : goal.returns-in-Err-new
-unfolding has_code
-returns-in-Err-new c = first_false _ _ c.in-Err-new.ensures.0 ∙ ap (λ m. has_code m c.args.n) (sym c.in-Phase.is)
+returns-in-Phase c =
+    let n = c.args.n in
+    let b = c.is_ok_and-in-Phase.result in
+    let m : MatchResult c.new-in-Phase.result (λ s. b ≡ (phase_map s.modulus).elements.codes n) (λ e. b ≡ false) = MatchResult-weaker c.new-in-Phase.result c.is_ok_and-in-Phase.ensures (λ s p. search rules) (λ e p. p) in
+    made_code _ _ _ c.new-in-Phase.result b _ c.new-in-Phase.ensures m (λ s h. ap (λ k. (phase_map k).elements.codes n) h) ∙ ap (λ m. has_code m n) (sym c.in-Phase.is)

@@ -1,7 +1,0 @@
-use Rattle.std.proofs.Common.{sym, refl, ◌∙◌}
-use Rattle.std.proofs.lemmas.List.{set_past}
-use Rattle.rowfile.proofs.writer.put.Goals as goal
-use Rattle.rowfile.proofs.writer.put.Goals.{then-at-out, else-at-out}
-
-pub returns : goal.returns
-returns c = (elim c.if-at-out.branch [ then-at-out w ↦ w.out-is | else-at-out w ↦ w.out-is ∙ sym (set_past c.args.out.now c.args.at c.args.byte w.if-at-out.false) ], refl)

@@ -1,7 +1,0 @@
-use Rattle.std.proofs.Common.{drop}
-use Rattle.rowfile.specs.Writing.{commands_text}
-use Rattle.rowfile.proofs.Laid.{Left}
-use Rattle.rowfile.proofs.writer.put_commands.Given as goal
-
-abbrev pub invariant-loop-command : goal.invariant-loop-command
-invariant-loop-command l = Left l.out l.at (commands_text (drop l.command-index l.commands)) l.initial.out l.initial.at (commands_text l.commands)
