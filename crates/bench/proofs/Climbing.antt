@@ -14,9 +14,6 @@ module _ {E : Type 0} (m : Meaning E) (n place : ℕ) where
     pub rest : drop n new ≡ drop n old
     pub turns : (zs : List E) → Turns m (climb i (n - 1 - i)) (take n new) zs → Turns m (climb place (n - 1 - place)) (take n old) zs
 
-  pub rising_start : (xs : List E) → Rising place xs xs
-  rising_start xs = record { long = refl; rest = refl; turns = λ zs t. t }
-
   pub rising_more : (i : ℕ) (old new : List E) → suc i < n → n ≤ length new → Rising i old new → Rising (i + 1) old (exchanged m.cross i new)
   rising_more i old new h k r =
       let f = m.cross in

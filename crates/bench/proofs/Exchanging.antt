@@ -1,6 +1,7 @@
 -- An exchange in the memory of a log. Assumes nothing.
-use Rattle.std.proofs.Common.{◌≡◌, ℕ, zero, suc, ◌+◌, ◌<◌, ◌≤◌, ◌≢◌, List, [], ◌∷◌, ◌++◌, length, get_or, take, drop, set, sym, ap, ◌∙◌, le_of_suc-le-suc, not-suc-le-zero, add-one, arith, length-set, take-append-drop, length-take-le, get_or-set_other, get_or-set_same}
+use Rattle.std.proofs.Common.{◌≡◌, ℕ, zero, suc, ◌+◌, ◌<◌, ◌≤◌, List, [], ◌∷◌, ◌++◌, length, get_or, take, drop, set, sym, ap, ◌∙◌, add-one, arith, take-append-drop, length-take-le}
 use Rattle.std.proofs.lemmas.List.{get_or_append_left, get_or_default, get_or_read}
+use Rattle.std.proofs.lemmas.Grind.{common_steps}
 use Rattle.exchange.specs.Meaning.{Exchange, Meaning}
 use Rattle.runs.specs.Sweeps.{at}
 use Rattle.runs.specs.Exchanges.{exchanged}
@@ -16,12 +17,12 @@ module _ {E : Type 0} (f : Exchange E) where
 
   -- below a count, with the rest kept, it is that of the whole
   pub below_count : (n i : ℕ) (xs : List E) → suc i < n → n ≤ length xs → exchanged f i (take n xs) ++ drop n xs ≡ exchanged f i xs
-  below_count zero i xs h k = absurd (not-suc-le-zero h)
-  below_count (suc n) i [] h k = absurd (not-suc-le-zero k)
+  below_count zero i xs h k = absurd (omega arith)
+  below_count (suc n) i [] h k = absurd (omega arith)
   below_count (suc zero) zero (x ∷ xs) h k = absurd (omega arith)
   below_count (suc (suc n)) zero (x ∷ []) h k = absurd (omega arith)
   below_count (suc (suc n)) zero (x ∷ y ∷ zs) h k = ap (λ (l : List E). (f y x).1 ∷ (f y x).0 ∷ l) (take-append-drop n zs)
-  below_count (suc n) (suc i) (x ∷ xs) h k = ap (λ (l : List E). x ∷ l) (below_count n i xs (le_of_suc-le-suc h) (le_of_suc-le-suc k))
+  below_count (suc n) (suc i) (x ∷ xs) h k = ap (λ (l : List E). x ∷ l) (below_count n i xs (omega arith) (omega arith))
 
   pub read_below : (m : Meaning E) (n i j : ℕ) (xs : List E) (x : E) → suc i < n → n ≤ length xs → j < n → x ≡ get_or (exchanged f i xs) j x → x ≡ at m (exchanged f i (take n xs)) j
   read_below m n i j xs x h k l e =
@@ -34,9 +35,4 @@ module _ {E : Type 0} (f : Exchange E) where
 
 -- what stands at two neighbouring places after two writes
 pub two_reads : {E : Type 0} (i : ℕ) (xs : List E) (x y : E) (zs : List E) → i + 1 < length xs → zs ≡ set (set xs i x) (i + 1) y → (x ≡ get_or zs i x) × (y ≡ get_or zs (i + 1) y)
-two_reads i xs x y zs h e =
-    let apart : i ≢ i + 1 = omega arith in
-    let long = length-set xs i x in (
-      sym (ap (λ (l : List _). get_or l i x) e ∙ (get_or-set_other (set xs i x) (i + 1) i y x apart ∙ get_or-set_same xs i x x (omega arith))),
-      sym (ap (λ (l : List _). get_or l (i + 1) y) e ∙ get_or-set_same (set xs i x) (i + 1) y y (omega arith)),
-    )
+two_reads i xs x y zs h e = rw e (grind (arith, common_steps), grind (arith, common_steps))

@@ -1,5 +1,4 @@
 pub mod Walks
-pub mod Belonging
 pub mod Judging
 pub mod Reading
 pub mod Acting

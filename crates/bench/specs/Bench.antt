@@ -1,5 +1,5 @@
 -- Filling a row; a running bench with the memory that a call is handed, and what its calls answer. Assumes nothing.
-use Rattle.std.specs.Prelude.{◌≡◌, ℕ, ◌+◌, ◌<◌, ◌≤◌, false, T, ◌⊎◌, List, ◌∷◌, ◌++◌, length, Ok, Err, Result, slice_set}
+use Rattle.std.specs.Prelude.{◌≡◌, ℕ, ◌+◌, ◌<◌, false, T, ◌⊎◌, List, ◌∷◌, ◌++◌, length, Ok, Err, Result, slice_set}
 use Rattle.exchange.specs.Meaning.{Meaning}
 use Rattle.exchange.specs.declared.refusal.Refusal.{Refusal}
 use Rattle.exchange.specs.declared.refusal.Refusal.TheVariants.{NoElement, RowFull, WrongCarrier}
@@ -7,11 +7,10 @@ use Rattle.runs.specs.Book.{Answer, Call, Ground, Refuses, code, codes, done, ra
 use Rattle.runs.specs.Calls.{Held, counts, lengths, view}
 use Rattle.runs.specs.Sweeps.{at, taken}
 use Rattle.runs.specs.Exchanges.{Lacks}
-use Rattle.runs.specs.Exchanges
-use Rattle.bench.specs.declared.calls.Way.{Way}
-use Rattle.bench.specs.declared.calls.Way.TheVariants.{Back, Forth}
+use Rattle.runs.specs.Theorems.{Reaches}
 use Rattle.bench.specs.declared.bench.Filling.{Filling}
 use Rattle.bench.specs.declared.bench.Running.{Running}
+use Rattle.bench.specs.declared.log.Halves.{Halves}
 
 -- there is a next box in the row, and it is none past the thousand and twenty-fourth
 abbrev pub Room : {E : Type 0} → Filling → List E → Type 0
@@ -24,12 +23,13 @@ Put m x b row (Err r) b' row' =
     ((¬ Room b row × (r ≡ RowFull)) ⊎ (Room b row × (m.elements.belongs x ≡ false) × (r ≡ NoElement)))
     × (b'.boxes ≡ b.boxes) × (row' ≡ row)
 
-abbrev pub held : {E : Type 0} → Running → List E → List E → List E → Held E
-held b row incoming outgoing = record { boxes = b.boxes; sweeps = b.sweeps; row = row; incoming = incoming; outgoing = outgoing }
+-- what a call is handed: the bench, a row, and the halves of its log
+abbrev pub held : {E : Type 0} → Running → List E → Halves E → Held E
+held b row halves = record { boxes = b.boxes; sweeps = b.sweeps; row = row; incoming = halves.incoming.now; outgoing = halves.outgoing.now }
 
--- memory of these lengths reaches the counts
-abbrev pub Enough : Running → ℕ → ℕ → ℕ → Type 0
-Enough b row incoming outgoing = (b.boxes ≤ row) × (incoming ≡ outgoing) × (b.sweeps ≤ incoming)
+-- the memory that a call is handed reaches the counts
+abbrev pub Enough : {E : Type 0} → Held E → Type 0
+Enough h = Reaches (counts h) (lengths h)
 
 -- a call held against the rules of the ranks below k: it breaks none of them, or is refused by the first that it breaks
 abbrev pub Judged : {E U : Type 0} → Meaning E → Held E → Call E → ℕ → Result U Refusal → Type 0
@@ -37,8 +37,8 @@ Judged m h call k (Ok u) = (s : Refusal) → rank s < k → ¬ Ground m (counts 
 Judged m h call k (Err r) = Refuses m (counts h) (lengths h) (view h) call r
 
 -- both carriers of the entry at a place belong
-abbrev pub Entry : {E : Type 0} → Meaning E → List E → List E → ℕ → Type 0
-Entry m incoming outgoing i = T (m.elements.belongs (at m incoming i)) × T (m.elements.belongs (at m outgoing i))
+abbrev pub Entry : {E : Type 0} → Meaning E → Halves E → ℕ → Type 0
+Entry m halves i = T (m.elements.belongs (at m halves.incoming.now i)) × T (m.elements.belongs (at m halves.outgoing.now i))
 
 -- the newest carrier of the kind k stands at the place i
 pub record Newest {E : Type 0} (m : Meaning E) (k : ℕ) (xs : List E) (i : ℕ) : Type 0 where
@@ -69,7 +69,3 @@ codes_answer (Err r) = refused r
 abbrev pub done_answer : {U : Type 0} → Result U Refusal → Answer
 done_answer (Ok u) = done
 done_answer (Err r) = refused r
-
-abbrev pub way_of : Way → Exchanges.Way
-way_of Forth = Exchanges.forth
-way_of Back = Exchanges.back

@@ -4,6 +4,7 @@ use Rattle.exchange.specs.declared.refusal.Refusal.{Refusal}
 use Rattle.exchange.specs.declared.refusal.Refusal.TheVariants.{LogEmpty, LogFull, NoPlace}
 use Rattle.exchange.specs.Meaning.{Exchange, Meaning}
 use Rattle.runs.specs.Exchanges.{Turns, climb, exchanged}
+use Rattle.bench.specs.declared.log.Halves.{Halves}
 use Rattle.bench.specs.declared.log.Log.{Log}
 
 -- the memory of a log, and how many of its entries are in use
@@ -18,6 +19,10 @@ entries l = record { count = l.count; incoming = l.incoming.now; outgoing = l.ou
 -- the log still lends the slices that it was lent
 abbrev pub Lent : {E : Type 0} → Log E → Log E → Type 0
 Lent l l' = (l'.incoming.ghost_name ≡ l.incoming.ghost_name) × (l'.outgoing.ghost_name ≡ l.outgoing.ghost_name)
+
+-- the halves still lend the slices that they were lent
+abbrev pub SameHalves : {E : Type 0} → Halves E → Halves E → Type 0
+SameHalves h h' = (h'.incoming.ghost_name ≡ h.incoming.ghost_name) × (h'.outgoing.ghost_name ≡ h.outgoing.ghost_name)
 
 -- the place i lies in both halves
 abbrev pub Within : {E : Type 0} → Entries E → ℕ → Type 0
@@ -49,6 +54,10 @@ Replaced l i x y (Err r) l' = (¬ ((i < l.count) × Within l i)) × (r ≡ NoPla
 -- the places i and i + 1 are in use, and all that is in use lies in both halves
 abbrev pub Exchangeable : {E : Type 0} → Entries E → ℕ → Type 0
 Exchangeable l i = (i + 1 < l.count) × (l.count ≤ length l.incoming) × (l.count ≤ length l.outgoing)
+
+-- whatever a closure answers of a pair is the pair exchanged by f
+abbrev pub Answers : {E : Type 0} → Exchange E → (E → E → E × E → Type 0) → Type 0
+Answers {E = E} f post = (left right : E) (p : E × E) → post left right p → p ≡ f left right
 
 -- the entries at i and i + 1 exchanged by f in both halves, and the new incoming carriers told
 abbrev pub Exchanged : {E : Type 0} → Exchange E → ℕ → Entries E → Result (E × E) Refusal → Entries E → Type 0

@@ -10,6 +10,7 @@ use exchange::{ExchangeMap, Refusal};
 // the greatest number of boxes in a row
 pub const MOST_BOXES: usize = 1_024;
 
+// Kept: the states hold numbers alone, and the row and the log are lent at each call, a rule of the project.
 pub struct Filling {
     pub(crate) boxes: usize,
 }

@@ -1,36 +1,41 @@
 // What the calls of a running bench look at before they change anything.
 ghost use Rattle.std.specs.Prelude.{◌≡◌, ◌<◌, ◌≤◌, T, ◌↔◌, length, take, IfOk, MatchOption};
 ghost use Rattle.bench.specs.Bench.{Enough, Entry, Judged, Newest, held};
-ghost use Rattle.runs.specs.Book.{exchange, raise, sweep, take_back};
+ghost use Rattle.exchange.specs.Meaning.{Meaning};
+ghost use Rattle.runs.specs.Book.{Call, exchange, raise, sweep, take_back};
 ghost use Rattle.runs.specs.Exchanges.{Lacks, Way};
 ghost use Rattle.runs.specs.Sweeps.{Belong};
 
 use crate::bench::Running;
+use crate::log::Halves;
 use crate::walk::all_belong;
 use exchange::{ExchangeMap, Refusal};
 
 impl Running {
-    // Whether memory of these lengths is enough for the counts.
-    fn suffices(&self, row: usize, incoming: usize, outgoing: usize) -> bool
-        ensures { T result ↔ Enough self.now row incoming outgoing }
+    // The rule of every call: memory that reaches the counts.
+    fn judge_memory<E>(&self, row: &[E], halves: &Halves<'_, E>) -> Result<(), Refusal>
+        ensures judged { (m : Meaning E) (call : Call E) → Judged m (held self.now row.now halves.now) call 2 result }
+        ensures enough { IfOk result (λ u. Enough (held self.now row.now halves.now)) }
     {
-        row >= self.boxes && incoming == outgoing && incoming >= self.sweeps
+        let log_len = halves.incoming.len();
+        if row.len() >= self.boxes && halves.outgoing.len() == log_len && log_len >= self.sweeps {
+            Ok(())
+        } else {
+            Err(Refusal::ShortMemory)
+        }
     }
 
     pub(crate) fn judge_sweep<M: ExchangeMap>(
         &self,
         map: &M,
         row: &[M::Elem],
-        incoming: &[M::Elem],
-        outgoing: &[M::Elem],
+        halves: &Halves<'_, M::Elem>,
         carrier: M::Elem,
     ) -> Result<(), Refusal>
-        ensures { Judged (M.ExchangeMap.meaning map.now) (held self.now row.now incoming.now outgoing.now) (sweep carrier) 6 result }
+        ensures { Judged (M.ExchangeMap.meaning map.now) (held self.now row.now halves.now) (sweep carrier) 6 result }
     {
-        if !self.suffices(row.len(), incoming.len(), outgoing.len()) {
-            return Err(Refusal::ShortMemory);
-        }
-        if self.sweeps == incoming.len() {
+        self.judge_memory(row, halves)?;
+        if self.sweeps == halves.incoming.len() {
             return Err(Refusal::LogFull);
         }
         if !all_belong(map, &row[0..self.boxes]) {
@@ -47,20 +52,15 @@ impl Running {
         &self,
         map: &M,
         row: &[M::Elem],
-        incoming: &[M::Elem],
-        outgoing: &[M::Elem],
+        halves: &Halves<'_, M::Elem>,
     ) -> Result<(), Refusal>
-        ensures { Judged (M.ExchangeMap.meaning map.now) (held self.now row.now incoming.now outgoing.now) take_back 5 result }
+        ensures { Judged (M.ExchangeMap.meaning map.now) (held self.now row.now halves.now) take_back 5 result }
     {
-        if !self.suffices(row.len(), incoming.len(), outgoing.len()) {
-            return Err(Refusal::ShortMemory);
-        }
+        self.judge_memory(row, halves)?;
         if self.sweeps == 0 {
             return Err(Refusal::LogEmpty);
         }
-        if !(entry_belongs(map, incoming, outgoing, self.sweeps - 1)
-            & all_belong(map, &row[0..self.boxes]))
-        {
+        if !(halves.entry_belongs(map, self.sweeps - 1) & all_belong(map, &row[0..self.boxes])) {
             return Err(Refusal::Stray);
         }
         Ok(())
@@ -70,21 +70,16 @@ impl Running {
         &self,
         map: &M,
         row: &[M::Elem],
-        incoming: &[M::Elem],
-        outgoing: &[M::Elem],
+        halves: &Halves<'_, M::Elem>,
         place: usize,
     ) -> Result<(), Refusal>
-        ensures { (w : Way) → Judged (M.ExchangeMap.meaning map.now) (held self.now row.now incoming.now outgoing.now) (exchange w place) 6 result }
+        ensures { (w : Way) → Judged (M.ExchangeMap.meaning map.now) (held self.now row.now halves.now) (exchange w place) 6 result }
     {
-        if !self.suffices(row.len(), incoming.len(), outgoing.len()) {
-            return Err(Refusal::ShortMemory);
-        }
+        self.judge_memory(row, halves)?;
         if place >= self.sweeps.saturating_sub(1) {
             return Err(Refusal::NoPlace);
         }
-        if !(entry_belongs(map, incoming, outgoing, place)
-            & entry_belongs(map, incoming, outgoing, place + 1))
-        {
+        if !(halves.entry_belongs(map, place) & halves.entry_belongs(map, place + 1)) {
             return Err(Refusal::Stray);
         }
         Ok(())
@@ -95,54 +90,46 @@ impl Running {
         &self,
         map: &M,
         row: &[M::Elem],
-        incoming: &[M::Elem],
-        outgoing: &[M::Elem],
+        halves: &Halves<'_, M::Elem>,
         kind: u32,
     ) -> Result<usize, Refusal>
-        ensures judged { Judged (M.ExchangeMap.meaning map.now) (held self.now row.now incoming.now outgoing.now) (raise kind) 6 result }
-        ensures place { IfOk result (λ i. (self.now.sweeps ≤ length incoming.now) × (length incoming.now ≡ length outgoing.now) × Newest (M.ExchangeMap.meaning map.now) kind (take self.now.sweeps incoming.now) i) }
+        ensures judged { Judged (M.ExchangeMap.meaning map.now) (held self.now row.now halves.now) (raise kind) 6 result }
+        ensures place { IfOk result (λ i. Enough (held self.now row.now halves.now) × Newest (M.ExchangeMap.meaning map.now) kind (take self.now.sweeps halves.now.incoming.now) i) }
     {
-        if !self.suffices(row.len(), incoming.len(), outgoing.len()) {
-            return Err(Refusal::ShortMemory);
-        }
-        let Some(place) = newest_of_kind(map, &incoming[0..self.sweeps], kind) else {
+        self.judge_memory(row, halves)?;
+        let Some(place) = newest_of_kind(map, &halves.incoming[0..self.sweeps], kind) else {
             return Err(Refusal::NoPlace);
         };
-        if !both_belong(map, &incoming[0..self.sweeps], &outgoing[0..self.sweeps]) {
+        if !halves.entries_belong(map, self.sweeps) {
             return Err(Refusal::Stray);
         }
         Ok(place)
     }
 }
 
-// Whether every value of both halves belongs.
-fn both_belong<M: ExchangeMap>(map: &M, incoming: &[M::Elem], outgoing: &[M::Elem]) -> bool
-    ensures { T result ↔ (Belong (M.ExchangeMap.meaning map.now) incoming.now × Belong (M.ExchangeMap.meaning map.now) outgoing.now) }
-{
-    all_belong(map, incoming) && all_belong(map, outgoing)
-}
+impl<E: Copy> Halves<'_, E> {
+    // Whether both carriers of the entry at a place belong. Tests joined by `&` are made side by side, with no branch between them.
+    fn entry_belongs<M: ExchangeMap<Elem = E>>(&self, map: &M, place: usize) -> bool
+        requires { (place < length self.now.incoming.now) × (place < length self.now.outgoing.now) }
+        ensures { T result ↔ Entry (M.ExchangeMap.meaning map.now) self.now place }
+    {
+        map.belongs(self.incoming[place]) & map.belongs(self.outgoing[place])
+    }
 
-// Whether both carriers of the entry at a place belong. Tests joined by `&` are made side by side, with no branch between them.
-fn entry_belongs<M: ExchangeMap>(
-    map: &M,
-    incoming: &[M::Elem],
-    outgoing: &[M::Elem],
-    place: usize,
-) -> bool
-    requires { (place < length incoming.now) × (place < length outgoing.now) }
-    ensures { T result ↔ Entry (M.ExchangeMap.meaning map.now) incoming.now outgoing.now place }
-{
-    map.belongs(incoming[place]) & map.belongs(outgoing[place])
+    // Whether both carriers of every entry below a count belong.
+    fn entries_belong<M: ExchangeMap<Elem = E>>(&self, map: &M, count: usize) -> bool
+        requires { (count ≤ length self.now.incoming.now) × (count ≤ length self.now.outgoing.now) }
+        ensures { T result ↔ (Belong (M.ExchangeMap.meaning map.now) (take count self.now.incoming.now) × Belong (M.ExchangeMap.meaning map.now) (take count self.now.outgoing.now)) }
+    {
+        all_belong(map, &self.incoming[0..count]) && all_belong(map, &self.outgoing[0..count])
+    }
 }
 
 // The place of the newest carrier of a kind.
 fn newest_of_kind<M: ExchangeMap>(map: &M, carriers: &[M::Elem], kind: u32) -> Option<usize>
     ensures { MatchOption result (Lacks (M.ExchangeMap.meaning map.now) kind carriers.now) (Newest (M.ExchangeMap.meaning map.now) kind carriers.now) }
 {
-    for i in (0..carriers.len()).rev() {
-        if map.kind(carriers[i]) as u32 == kind {
-            return Some(i);
-        }
-    }
-    None
+    carriers
+        .iter()
+        .rposition(|carrier| u32::from(map.kind(*carrier)) == kind)
 }

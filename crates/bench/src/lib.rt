@@ -10,4 +10,4 @@ pub mod log;
 pub mod walk;
 
 pub use bench::{Closed, Filling, Running};
-pub use log::Log;
+pub use log::{Halves, Log};

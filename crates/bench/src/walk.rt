@@ -22,6 +22,7 @@ pub fn unsweep_row<M: ExchangeMap>(map: &M, row: &mut [M::Elem], carrier: M::Ele
     ensures { (result, row.new) ≡ taken (M.ExchangeMap.meaning map.now) row.old carrier }
 {
     let mut moving = carrier;
+    // Kept: the loop by index. Over `row.iter_mut().rev()` no invariant can name what was written, so the proof did not close.
     for i in (0..row.len()).rev() {
         let (former, place) = map.uncross(row[i], moving);
         row[i] = place;
@@ -34,10 +35,5 @@ pub fn unsweep_row<M: ExchangeMap>(map: &M, row: &mut [M::Elem], carrier: M::Ele
 pub fn all_belong<M: ExchangeMap>(map: &M, values: &[M::Elem]) -> bool
     ensures { T result ↔ Belong (M.ExchangeMap.meaning map.now) values.now }
 {
-    for x in values {
-        if !map.belongs(*x) {
-            return false;
-        }
-    }
-    true
+    values.iter().all(|x| map.belongs(*x))
 }

@@ -1,5 +1,5 @@
 // How many boxes and sweeps there may be, and a row that was spoiled before the start.
-use bench::{Closed, Filling, Running};
+use bench::{Closed, Filling, Halves, Running};
 use exchange::Refusal;
 use maps::{Capacity, Holder};
 
@@ -19,9 +19,13 @@ fn sweep_256_is_the_last(rt: HostRuntime) {
     let mut row = [EMPTY; 1];
     let mut incoming = [EMPTY; 256];
     let mut outgoing = [EMPTY; 256];
+    let mut halves = Halves {
+        incoming: &mut incoming,
+        outgoing: &mut outgoing,
+    };
     let mut running = filled(1, &mut row).start(&Capacity);
-    let granted = sweeps(256, &mut running, &mut row, &mut incoming, &mut outgoing);
-    let next = running.sweep(&Capacity, &mut row, &mut incoming, &mut outgoing, EMPTY);
+    let granted = sweeps(256, &mut running, &mut row, &mut halves);
+    let next = running.sweep(&Capacity, &mut row, &mut halves, EMPTY);
     let Closed { boxes, sweeps } = running.close();
     assert_eq!(rt; next, Err(Refusal::LogFull));
     assert_eq!(rt; (boxes, sweeps, granted), (1, 256, true));
@@ -38,6 +42,7 @@ fn box_1024_is_the_last(rt: HostRuntime) {
 }
 
 // A bench after some puts.
+// Kept: the loop of puts stands in the session and in the trials of speed too: one for all would be a public call of the bench, with a contract longer than the three loops.
 pub(crate) fn filled(puts: usize, row: &mut [Holder]) -> Filling {
     let mut filling = Filling::new();
     for _ in 0..puts {
@@ -51,18 +56,9 @@ fn sweeps(
     count: usize,
     running: &mut Running,
     row: &mut [Holder],
-    incoming: &mut [Holder],
-    outgoing: &mut [Holder],
+    halves: &mut Halves<'_, Holder>,
 ) -> bool {
-    for _ in 0..count {
-        if running
-            .sweep(&Capacity, row, incoming, outgoing, EMPTY)
-            .is_err()
-        {
-            return false;
-        }
-    }
-    true
+    (0..count).all(|_| running.sweep(&Capacity, row, halves, EMPTY).is_ok())
 }
 
 #[test]
@@ -84,12 +80,16 @@ fn a_row_spoiled_before_the_start_is_never_swept(rt: HostRuntime) {
     let mut row = [EMPTY; 2];
     let mut incoming = [EMPTY; 2];
     let mut outgoing = [EMPTY; 2];
+    let mut halves = Halves {
+        incoming: &mut incoming,
+        outgoing: &mut outgoing,
+    };
     let mut filling = Filling::new();
     let put = filling.put(&Capacity, &mut row, EMPTY);
     row[0] = STRANGER;
     let mut running = filling.start(&Capacity);
-    let first = running.sweep(&Capacity, &mut row, &mut incoming, &mut outgoing, EMPTY);
-    let second = running.sweep(&Capacity, &mut row, &mut incoming, &mut outgoing, STRANGER);
+    let first = running.sweep(&Capacity, &mut row, &mut halves, EMPTY);
+    let second = running.sweep(&Capacity, &mut row, &mut halves, STRANGER);
     let Closed { boxes, sweeps } = running.close();
     assert_eq!(rt; put, Ok(()));
     assert_eq!(rt; (first, second), (Err(Refusal::Stray), Err(Refusal::Stray)));

@@ -1,11 +1,12 @@
 -- The rows of a file that keeps the rules are rows of the map that it names. Assumes nothing.
-use Rattle.std.proofs.Common.{◌≡◌, ℕ, ◌≤◌, T, length, subst}
+use Rattle.std.proofs.Common.{◌≡◌, ℕ, ◌≤◌, Bool, T, length, Ok, Err, IsOk, Result, refl, subst}
 use Rattle.std.proofs.ByRecursion.{All-weaker}
 use Rattle.std.specs.List.{AllByRecursion}
 use Rattle.exchange.proofs.Tests.{T_parts}
+use Rattle.exchange.specs.declared.refusal.Refusal.{Refusal}
 use Rattle.maps.specs.Affine.{affine_map, affine_parameters}
 use Rattle.maps.specs.Capacity.{capacity_map}
-use Rattle.maps.specs.Making.{is_modulus}
+use Rattle.maps.specs.Making.{Makes, is_modulus}
 use Rattle.maps.specs.Permutations.{perm_map}
 use Rattle.maps.specs.Phases.{phase_map}
 use Rattle.rowfile.specs.Files.{File, Keeps}
@@ -48,3 +49,8 @@ module _ (f : File) (k : Keeps f) where
 -- maps of equal parameters
 pub same_affine : {m m' a a' b b' c c' d d' : ℕ} → m ≡ m' → a ≡ a' → b ≡ b' → c ≡ c' → d ≡ d' → affine_map m a b c d ≡ affine_map m' a' b' c' d'
 same_affine p q r s t = λ i. affine_map (p i) (q i) (r i) (s i) (t i)
+
+-- parameters that keep a map's rule make it
+pub made : {M : Type 0} (rule : Bool) (has : M → Type 0) (r : Result M Refusal) → Makes rule has r → T rule → IsOk r
+made rule has (Ok s) p t = refl
+made rule has (Err e) p t = absurd (subst T p.0 t)

@@ -18,9 +18,6 @@ module _ {E : Type 0} (m : Meaning E) (returning : Bool) (commands : List Comman
       (xs : List E) × (lines : Bytes) × Playing m filled h xs × (out ≡ out₀ ++ lines)
       × ((rest : Bytes) → Plays m returning filled xs (drop i commands) rest → Plays m returning filled [] commands (lines ++ rest))
 
-  pub midway_start : (h : Held E) (out : Bytes) → Midway 0 h out h out
-  midway_start h out filled p = ([], [], p, sym (append-nil out), λ rest t. t)
-
   pub midway_more : (i : ℕ) (h₀ : Held E) (out₀ : Bytes) (h h' : Held E) (out out' : Bytes) (d : Command) → i < length commands → Midway i h₀ out₀ h out → Steps m returning (get_or commands i d) h out h' out' → Midway (i + 1) h₀ out₀ h' out'
   midway_more i h₀ out₀ h h' out out' d k before step filled p =
       let b = before filled p in

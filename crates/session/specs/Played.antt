@@ -1,5 +1,5 @@
 -- What a session prints, by the plain book. Assumes nothing.
-use Rattle.std.specs.Prelude.{◌≡◌, ℕ, Bool, true, false, List, [], ◌∷◌, ◌++◌, map, length, codes as bytes, decimal}
+use Rattle.std.specs.Prelude.{◌≡◌, ℕ, Bool, true, false, List, [], ◌∷◌, ◌++◌, map, length, codes as bytes, decimal, Result, Ok, Err}
 use Rattle.exchange.specs.Meaning.{Meaning}
 use Rattle.exchange.specs.Layers.{mirror}
 use Rattle.exchange.specs.Refusals.{number_of}
@@ -43,6 +43,11 @@ answer_fields letter all (refused r) = refusal_fields r
 answer_fields letter all (code n) = letter ∷ decimal n ∷ []
 answer_fields letter all (codes i j) = letter ∷ decimal i ∷ decimal j ∷ []
 answer_fields letter all done = letter ∷ all
+
+-- the codes of what was answered behind the letter of its command, or the refusal
+abbrev pub coded_fields : {A : Type 0} → (A → List ℕ) → Bytes → Result A Refusal → List Bytes
+coded_fields codes_of letter (Ok x) = letter ∷ map decimal (codes_of x)
+coded_fields codes_of letter (Err r) = refusal_fields r
 
 -- the memory of a session: a row of as many places as boxes, and a log of 256
 abbrev pub session_lengths : {E : Type 0} → List E → Lengths

@@ -6,9 +6,9 @@ ghost use Rattle.session.specs.Playing.{Rowed};
 ghost use Rattle.std.specs.Prelude.{true, false, IfOk, string_bytes};
 
 use crate::commands::play_on;
-use crate::lines::{NoMemory, say_fault};
-use crate::raising::{Allowed, Refused};
-use exchange::{ExchangeMap, Mirror, ReturningMap};
+use crate::lines::NoMemory;
+use crate::raising::{Allowed, Raising, Refused};
+use exchange::{ExchangeMap, Mirror};
 use maps::{Affine, Capacity, Permutations, Phases};
 use rowfile::{MapName, ReadError, RowFile, Side, read};
 use std::alloc::Global;
@@ -20,14 +20,8 @@ pub fn play(heap: Global, text: &[u8]) -> Result<String, NoMemory>
 {
     match read(heap, text) {
         Ok(file) => play_file(heap, &file),
-        Err(error) => match error {
-            ReadError::Fault(fault) => {
-                let mut out = String::new(heap);
-                say_fault(&mut out, fault)?;
-                Ok(out)
-            }
-            ReadError::Memory => Err(NoMemory),
-        },
+        Err(ReadError::Fault(fault)) => Ok(format!(in heap; "{fault}\n")?),
+        Err(ReadError::Memory) => Err(NoMemory),
     }
 }
 
@@ -36,43 +30,31 @@ fn play_file(heap: Global, file: &RowFile) -> Result<String, NoMemory>
     ensures { IfOk result (λ s. PlaysFile (file_of file.now) (string_bytes s)) }
 {
     match file.heading.map {
-        MapName::Cap => play_returning(heap, Capacity, file),
-        MapName::Perm => play_plain(heap, Permutations, file),
-        MapName::Aff { m, a, b, c, d } => match Affine::new(m, a, b, c, d) {
-            Ok(map) => play_plain(heap, map, file),
-            Err(_) => unreachable(),
-        },
-        MapName::Phase { m } => match Phases::new(m) {
-            Ok(map) => play_returning(heap, map, file),
-            Err(_) => unreachable(),
-        },
+        MapName::Cap => play_seen(heap, Capacity, &Allowed, file),
+        MapName::Perm => play_seen(heap, Permutations, &Refused, file),
+        MapName::Aff { m, a, b, c, d } => {
+            let map = Affine::new(m, a, b, c, d).unwrap();
+            play_seen(heap, map, &Refused, file)
+        }
+        MapName::Phase { m } => {
+            let map = Phases::new(m).unwrap();
+            play_seen(heap, map, &Allowed, file)
+        }
     }
 }
 
-fn play_returning<M: ReturningMap + Copy>(
+// The lines of a row file, played on a map as its side sees it.
+fn play_seen<M: ExchangeMap + Copy, R: Raising<M> + Raising<Mirror<M>>>(
     heap: Global,
     map: M,
+    raising: &R,
     file: &RowFile,
 ) -> Result<String, NoMemory>
     requires { Rowed (M.ExchangeMap.meaning map) file.now.codes.items }
-    ensures { IfOk result (λ s. PlaysOn (seen_from file.now.heading.side (M.ExchangeMap.meaning map)) true (file_of file.now) (string_bytes s)) }
+    ensures { IfOk result (λ s. PlaysOn (seen_from file.now.heading.side (M.ExchangeMap.meaning map)) R.allowed (file_of file.now) (string_bytes s)) }
 {
     match file.heading.side {
-        Side::Left => play_on(heap, &map, &Allowed, file),
-        Side::Right => play_on(heap, &Mirror(map), &Allowed, file),
-    }
-}
-
-fn play_plain<M: ExchangeMap + Copy>(
-    heap: Global,
-    map: M,
-    file: &RowFile,
-) -> Result<String, NoMemory>
-    requires { Rowed (M.ExchangeMap.meaning map) file.now.codes.items }
-    ensures { IfOk result (λ s. PlaysOn (seen_from file.now.heading.side (M.ExchangeMap.meaning map)) false (file_of file.now) (string_bytes s)) }
-{
-    match file.heading.side {
-        Side::Left => play_on(heap, &map, &Refused, file),
-        Side::Right => play_on(heap, &Mirror(map), &Refused, file),
+        Side::Left => play_on(heap, &map, raising, file),
+        Side::Right => play_on(heap, &Mirror(map), raising, file),
     }
 }

@@ -6,6 +6,8 @@ mod commands;
 pub mod files;
 pub mod lines;
 pub mod raising;
+#[cfg(test)]
+mod tests;
 pub mod worked;
 
 pub use files::play;

@@ -1,25 +1,30 @@
 // Raises in a session: the bench's call with `Allowed`, which only a returning map has, and a refusal with `Refused`.
 ghost use Rattle.bench.specs.Bench.{done_answer, held};
+ghost use Rattle.bench.specs.Log.{SameHalves};
 ghost use Rattle.session.specs.Played.{Attempted};
 ghost use Rattle.std.specs.Prelude.{Bool, true, false};
 
-use bench::Running;
+use bench::{Halves, Running};
 use exchange::{ExchangeMap, Refusal, ReturningMap};
 
-pub trait Raising<M: ExchangeMap> {
-    // whether the bench's raise is called
-    ghost allowed: { Bool };
+// Kept: a trait and no closure that raises: so the type says that only a returning map raises, and one value serves a map and its mirror.
 
+// Whether the bench's raise is called, whatever the map.
+pub trait Permission {
+    ghost allowed: { Bool };
+}
+
+pub trait Raising<M: ExchangeMap>: Permission {
     fn raise(
         &self,
         bench: &Running,
         map: &M,
         row: &[M::Elem],
-        incoming: &mut [M::Elem],
-        outgoing: &mut [M::Elem],
+        halves: &mut Halves<'_, M::Elem>,
         kind: u32,
     ) -> Result<(), Refusal>
-        ensures { Attempted allowed (M.ExchangeMap.meaning map.now) kind (held bench.now row.now incoming.old outgoing.old) (held bench.now row.now incoming.new outgoing.new) (done_answer result) };
+        ensures lent { SameHalves halves.old halves.new }
+        ensures attempted { Attempted Self.allowed (M.ExchangeMap.meaning map.now) kind (held bench.now row.now halves.old) (held bench.now row.now halves.new) (done_answer result) };
 }
 
 #[derive(Clone, Copy)]
@@ -28,32 +33,34 @@ pub struct Allowed;
 #[derive(Clone, Copy)]
 pub struct Refused;
 
-impl<M: ReturningMap> Raising<M> for Allowed {
+impl Permission for Allowed {
     ghost allowed = { true };
+}
 
+impl<M: ReturningMap> Raising<M> for Allowed {
     fn raise(
         &self,
         bench: &Running,
         map: &M,
         row: &[M::Elem],
-        incoming: &mut [M::Elem],
-        outgoing: &mut [M::Elem],
+        halves: &mut Halves<'_, M::Elem>,
         kind: u32,
     ) -> Result<(), Refusal> {
-        bench.raise(map, row, incoming, outgoing, kind)
+        bench.raise(map, row, halves, kind)
     }
 }
 
-impl<M: ExchangeMap> Raising<M> for Refused {
+impl Permission for Refused {
     ghost allowed = { false };
+}
 
+impl<M: ExchangeMap> Raising<M> for Refused {
     fn raise(
         &self,
         _bench: &Running,
         _map: &M,
         _row: &[M::Elem],
-        _incoming: &mut [M::Elem],
-        _outgoing: &mut [M::Elem],
+        _halves: &mut Halves<'_, M::Elem>,
         _kind: u32,
     ) -> Result<(), Refusal> {
         Err(Refusal::NotReturning)

@@ -2,231 +2,218 @@
 // What each call does is in the contracts of `bench` and `rowfile`. The answers' checksums are only compared with that program's, so nothing is said of them here; the exports apart, nothing here is open to others.
 #![tactic(auto)]
 
-use bench::{Closed, Filling, Running};
+use bench::{Closed, Filling, Halves, Running};
 use exchange::{ExchangeMap, Refusal, ReturningMap};
 use maps::{Affine, Capacity, Permutations, Phases};
 use rowfile::{ReadError, RowFile, read};
-use std::alloc::{AllocFailed, Global};
+use std::alloc::{AllocError, Global};
 
-// The checksum of one answer more.
-fn mix(sum: u32, answer: u32) -> u32 {
-    sum.wrapping_mul(31).wrapping_add(answer)
+// What is mixed into a checksum.
+trait Mixed {
+    fn mixed(self, sum: u32) -> u32;
 }
 
-fn mix_code(sum: u32, answer: Result<u32, Refusal>) -> u32 {
-    match answer {
-        Ok(code) => mix(sum, code),
-        Err(refusal) => mix(sum, u32::from(refusal.number())),
+impl Mixed for () {
+    fn mixed(self, sum: u32) -> u32 {
+        0u32.mixed(sum)
     }
 }
 
-fn mix_codes(sum: u32, answer: Result<(u32, u32), Refusal>) -> u32 {
-    match answer {
-        Ok((older, newer)) => mix(mix(sum, older), newer),
-        Err(refusal) => mix(sum, u32::from(refusal.number())),
+impl Mixed for u32 {
+    fn mixed(self, sum: u32) -> u32 {
+        sum.wrapping_mul(31).wrapping_add(self)
     }
 }
 
-fn mix_done(sum: u32, answer: Result<(), Refusal>) -> u32 {
-    match answer {
-        Ok(()) => mix(sum, 0),
-        Err(refusal) => mix(sum, u32::from(refusal.number())),
+impl Mixed for (u32, u32) {
+    fn mixed(self, sum: u32) -> u32 {
+        self.1.mixed(self.0.mixed(sum))
     }
 }
 
-fn mix_file(sum: u32, answer: Result<RowFile, ReadError>) -> u32 {
-    match answer {
-        Ok(file) => {
-            let mut sum = mix(sum, (file.commands.len() % 65536) as u32);
-            for code in file.codes.as_slice() {
-                sum = mix(sum, *code);
-            }
-            sum
+impl Mixed for Refusal {
+    fn mixed(self, sum: u32) -> u32 {
+        u32::from(self.number()).mixed(sum)
+    }
+}
+
+impl Mixed for RowFile {
+    // Kept: `as`, here and in ended, after the remainder that makes it fit.
+    fn mixed(self, sum: u32) -> u32 {
+        let commands = (self.commands.len() % 65536) as u32;
+        self.codes
+            .iter()
+            .fold(commands.mixed(sum), |sum, code| code.mixed(sum))
+    }
+}
+
+impl Mixed for ReadError {
+    fn mixed(self, sum: u32) -> u32 {
+        match self {
+            ReadError::Fault(fault) => fault.refusal.mixed(fault.line.mixed(sum)),
+            ReadError::Memory => u32::MAX.mixed(sum),
         }
-        Err(ReadError::Fault(fault)) => {
-            mix(mix(sum, fault.line), u32::from(fault.refusal.number()))
-        }
-        Err(ReadError::Memory) => mix(sum, u32::MAX),
     }
 }
 
+impl<T: Mixed, E: Mixed> Mixed for Result<T, E> {
+    fn mixed(self, sum: u32) -> u32 {
+        match self {
+            Ok(answer) => answer.mixed(sum),
+            Err(error) => error.mixed(sum),
+        }
+    }
+}
+
+// What an exported call is handed, beside the parameters of its map.
 #[derive(Clone, Copy)]
-struct NoMemory;
+struct Work<'a> {
+    heap: Global,
+    codes: &'a [u32],
+    carriers: &'a [u32],
+    rounds: u32,
+}
 
-impl<T: Drop> From<AllocFailed<T>> for NoMemory {
-    fn from(_e: AllocFailed<T>) -> NoMemory {
-        NoMemory
+impl<'a> Work<'a> {
+    fn new(heap: Global, codes: &'a [u32], carriers: &'a [u32], rounds: u32) -> Work<'a> {
+        Work {
+            heap,
+            codes,
+            carriers,
+            rounds,
+        }
+    }
+
+    // Each round sweeps every carrier and takes every sweep back.
+    // Kept: the rounds stand in three functions, each with its bench and halves: as closures handed to one set-up they were not inlined, and raises of phases went from 1.07 to 1.45 times the Rust's time, exchanges of residues from 1.00 to 1.22.
+    fn sweeps<M: ExchangeMap>(&self, map: &M) -> Result<u32, AllocError> {
+        let (mut bench, mut memory) = self.set_up(map)?;
+        let row = &mut memory.row;
+        let carriers = &memory.carriers;
+        let mut halves = Halves {
+            incoming: &mut memory.incoming,
+            outgoing: &mut memory.outgoing,
+        };
+        let mut sum = 0;
+        for _round in 0..self.rounds {
+            sum = sweep_all(&mut bench, map, row, &mut halves, carriers, sum);
+            for _ in 0..carriers.len() {
+                sum = bench.take_back(map, row, &mut halves).mixed(sum);
+            }
+        }
+        Ok(ended(bench, sum))
+    }
+
+    // The carriers are swept once; each round exchanges at every place upwards, and back at every place downwards.
+    fn exchanges<M: ExchangeMap>(&self, map: &M) -> Result<u32, AllocError> {
+        let (mut bench, mut memory) = self.set_up(map)?;
+        let row = &mut memory.row;
+        let carriers = &memory.carriers;
+        let mut halves = Halves {
+            incoming: &mut memory.incoming,
+            outgoing: &mut memory.outgoing,
+        };
+        let mut sum = sweep_all(&mut bench, map, row, &mut halves, carriers, 0);
+        for _round in 0..self.rounds {
+            for place in 0..carriers.len() {
+                sum = bench.exchange(map, row, &mut halves, place).mixed(sum);
+            }
+            for place in (0..carriers.len()).rev() {
+                sum = bench.exchange_back(map, row, &mut halves, place).mixed(sum);
+            }
+        }
+        Ok(ended(bench, sum))
+    }
+
+    // The carriers are swept once; each round raises the kind of every carrier.
+    fn raises<M: ReturningMap>(&self, map: &M) -> Result<u32, AllocError> {
+        let (mut bench, mut memory) = self.set_up(map)?;
+        let row = &mut memory.row;
+        let carriers = &memory.carriers;
+        let mut halves = Halves {
+            incoming: &mut memory.incoming,
+            outgoing: &mut memory.outgoing,
+        };
+        let mut sum = sweep_all(&mut bench, map, row, &mut halves, carriers, 0);
+        for _round in 0..self.rounds {
+            for carrier in carriers {
+                let kind = u32::from(map.kind(*carrier));
+                sum = bench.raise(map, row, &mut halves, kind).mixed(sum);
+            }
+        }
+        Ok(ended(bench, sum))
+    }
+
+    // A running bench whose row holds the elements of the codes, and the memory for its calls.
+    fn set_up<M: ExchangeMap>(&self, map: &M) -> Result<(Running, Memory<M::Elem>), AllocError> {
+        let elements = |codes: &[u32]| -> Result<Vec<M::Elem>, AllocError> {
+            codes
+                .iter()
+                .map(|code| map.element(*code))
+                .collect(self.heap)
+        };
+        let mut memory = Memory {
+            row: elements(self.codes)?,
+            incoming: elements(self.carriers)?,
+            outgoing: elements(self.carriers)?,
+            carriers: elements(self.carriers)?,
+        };
+        let mut filling = Filling::new();
+        for code in self.codes {
+            // never refused, and a filling bench could not be let go by `?`
+            let _ = filling.put(map, &mut memory.row, map.element(*code));
+        }
+        Ok((filling.start(map), memory))
     }
 }
 
-fn decoded<M: ExchangeMap>(heap: Global, map: &M, codes: &[u32]) -> Result<Vec<M::Elem>, NoMemory> {
-    let mut elements = Vec::new(heap);
-    for code in codes {
-        elements.push(map.element(*code))?;
-    }
-    Ok(elements)
-}
-
-// A running bench whose row holds the elements of the codes.
-fn filled<M: ExchangeMap>(map: &M, row: &mut [M::Elem], codes: &[u32]) -> Running {
-    let mut bench = Filling::new();
-    for code in codes {
-        let _ = bench.put(map, row, map.element(*code));
-    }
-    bench.start(map)
-}
-
-// A running bench with the memory that its calls are lent, and the carriers to sweep.
-// The log has a place for each carrier.
-struct Trial<E: Drop> {
-    bench: Running,
+// What the calls of a trial are lent, and the carriers to sweep. The log has a place for each carrier.
+// Kept: vectors side by side, since the bench's calls are lent a slice of each.
+#[derive(Drop)]
+struct Memory<E> {
     row: Vec<E>,
     incoming: Vec<E>,
     outgoing: Vec<E>,
     carriers: Vec<E>,
 }
 
-fn set_up<M: ExchangeMap>(
-    heap: Global,
-    map: &M,
-    codes: &[u32],
-    carriers: &[u32],
-) -> Result<Trial<M::Elem>, NoMemory> {
-    let mut row = decoded(heap, map, codes)?;
-    let incoming = decoded(heap, map, carriers)?;
-    let outgoing = decoded(heap, map, carriers)?;
-    let carriers = decoded(heap, map, carriers)?;
-    let bench = filled(map, row.as_mut_slice(), codes);
-    Ok(Trial {
-        bench,
-        row,
-        incoming,
-        outgoing,
-        carriers,
-    })
-}
-
 fn sweep_all<M: ExchangeMap>(
     bench: &mut Running,
     map: &M,
     row: &mut [M::Elem],
-    incoming: &mut [M::Elem],
-    outgoing: &mut [M::Elem],
+    halves: &mut Halves<'_, M::Elem>,
     carriers: &[M::Elem],
     start: u32,
 ) -> u32 {
-    let mut sum = start;
-    for carrier in carriers {
-        sum = mix_code(sum, bench.sweep(map, row, incoming, outgoing, *carrier));
-    }
-    sum
+    carriers.iter().fold(
+        start,
+        |sum, carrier| bench.sweep(map, row, halves, *carrier).mixed(sum),
+    )
 }
 
 // The checksum with the sweeps that the closed bench still has.
 fn ended(bench: Running, sum: u32) -> u32 {
     let Closed { boxes: _, sweeps } = bench.close();
-    mix(sum, (sweeps % 65536) as u32)
+    ((sweeps % 65536) as u32).mixed(sum)
 }
 
-// The checksum; u32::MAX where memory is wanting.
-fn answer(sum: Result<u32, NoMemory>) -> u32 {
-    match sum {
-        Ok(sum) => sum,
-        Err(_) => u32::MAX,
-    }
+// The map of five parameters.
+fn affine(parameters: &[u32]) -> Option<Affine> {
+    let &[m, a, b, c, d] = parameters else {
+        return None;
+    };
+    Affine::new(m, a, b, c, d).ok()
 }
 
-// Each round sweeps every carrier and takes every sweep back.
-fn sweeps<M: ExchangeMap>(
-    heap: Global,
-    map: &M,
-    codes: &[u32],
-    carriers: &[u32],
-    rounds: u32,
-) -> Result<u32, NoMemory> {
-    let Trial {
-        mut bench,
-        mut row,
-        mut incoming,
-        mut outgoing,
-        carriers,
-    } = set_up(heap, map, codes, carriers)?;
-    let row = row.as_mut_slice();
-    let incoming = incoming.as_mut_slice();
-    let outgoing = outgoing.as_mut_slice();
-    let carriers = carriers.as_slice();
-    let mut sum = 0;
-    for _round in 0..rounds {
-        sum = sweep_all(&mut bench, map, row, incoming, outgoing, carriers, sum);
-        for _carrier in carriers {
-            sum = mix_code(sum, bench.take_back(map, row, incoming, outgoing));
-        }
-    }
-    Ok(ended(bench, sum))
+// The map of one parameter.
+fn phases(parameters: &[u32]) -> Option<Phases> {
+    let &[m] = parameters else {
+        return None;
+    };
+    Phases::new(m).ok()
 }
 
-// The carriers are swept once; each round exchanges at every place upwards, and back at every place downwards.
-fn exchanges<M: ExchangeMap>(
-    heap: Global,
-    map: &M,
-    codes: &[u32],
-    carriers: &[u32],
-    rounds: u32,
-) -> Result<u32, NoMemory> {
-    let Trial {
-        mut bench,
-        mut row,
-        mut incoming,
-        mut outgoing,
-        carriers,
-    } = set_up(heap, map, codes, carriers)?;
-    let row = row.as_mut_slice();
-    let incoming = incoming.as_mut_slice();
-    let outgoing = outgoing.as_mut_slice();
-    let carriers = carriers.as_slice();
-    let mut sum = sweep_all(&mut bench, map, row, incoming, outgoing, carriers, 0);
-    for _round in 0..rounds {
-        for place in 0..carriers.len() {
-            sum = mix_codes(sum, bench.exchange(map, row, incoming, outgoing, place));
-        }
-        for place in (0..carriers.len()).rev() {
-            sum = mix_codes(
-                sum,
-                bench.exchange_back(map, row, incoming, outgoing, place),
-            );
-        }
-    }
-    Ok(ended(bench, sum))
-}
-
-// The carriers are swept once; each round raises the kind of every carrier.
-fn raises<M: ReturningMap>(
-    heap: Global,
-    map: &M,
-    codes: &[u32],
-    carriers: &[u32],
-    rounds: u32,
-) -> Result<u32, NoMemory> {
-    let Trial {
-        mut bench,
-        mut row,
-        mut incoming,
-        mut outgoing,
-        carriers,
-    } = set_up(heap, map, codes, carriers)?;
-    let row = row.as_mut_slice();
-    let incoming = incoming.as_mut_slice();
-    let outgoing = outgoing.as_mut_slice();
-    let carriers = carriers.as_slice();
-    let mut sum = sweep_all(&mut bench, map, row, incoming, outgoing, carriers, 0);
-    for _round in 0..rounds {
-        for carrier in carriers {
-            let kind = u32::from(map.kind(*carrier));
-            sum = mix_done(sum, bench.raise(map, row, incoming, outgoing, kind));
-        }
-    }
-    Ok(ended(bench, sum))
-}
+// Kept: one export for each map and kind of work, parameters one by one, and u32::MAX where no map or no memory is had: the C interface.
 
 #[unsafe(no_mangle)]
 pub extern "C" fn rattle_cap_sweeps(
@@ -236,7 +223,8 @@ pub extern "C" fn rattle_cap_sweeps(
     carriers: &[u32],
     rounds: u32,
 ) -> u32 {
-    answer(sweeps(heap, &Capacity, codes, carriers, rounds))
+    let work = Work::new(heap, codes, carriers, rounds);
+    work.sweeps(&Capacity).unwrap_or(u32::MAX)
 }
 
 #[unsafe(no_mangle)]
@@ -247,7 +235,8 @@ pub extern "C" fn rattle_cap_exchanges(
     carriers: &[u32],
     rounds: u32,
 ) -> u32 {
-    answer(exchanges(heap, &Capacity, codes, carriers, rounds))
+    let work = Work::new(heap, codes, carriers, rounds);
+    work.exchanges(&Capacity).unwrap_or(u32::MAX)
 }
 
 #[unsafe(no_mangle)]
@@ -258,7 +247,8 @@ pub extern "C" fn rattle_cap_raises(
     carriers: &[u32],
     rounds: u32,
 ) -> u32 {
-    answer(raises(heap, &Capacity, codes, carriers, rounds))
+    let work = Work::new(heap, codes, carriers, rounds);
+    work.raises(&Capacity).unwrap_or(u32::MAX)
 }
 
 #[unsafe(no_mangle)]
@@ -269,7 +259,8 @@ pub extern "C" fn rattle_perm_sweeps(
     carriers: &[u32],
     rounds: u32,
 ) -> u32 {
-    answer(sweeps(heap, &Permutations, codes, carriers, rounds))
+    let work = Work::new(heap, codes, carriers, rounds);
+    work.sweeps(&Permutations).unwrap_or(u32::MAX)
 }
 
 #[unsafe(no_mangle)]
@@ -280,7 +271,8 @@ pub extern "C" fn rattle_perm_exchanges(
     carriers: &[u32],
     rounds: u32,
 ) -> u32 {
-    answer(exchanges(heap, &Permutations, codes, carriers, rounds))
+    let work = Work::new(heap, codes, carriers, rounds);
+    work.exchanges(&Permutations).unwrap_or(u32::MAX)
 }
 
 #[unsafe(no_mangle)]
@@ -291,13 +283,10 @@ pub extern "C" fn rattle_aff_sweeps(
     carriers: &[u32],
     rounds: u32,
 ) -> u32 {
-    let [m, a, b, c, d] = parameters else {
-        return u32::MAX;
-    };
-    match Affine::new(*m, *a, *b, *c, *d) {
-        Ok(map) => answer(sweeps(heap, &map, codes, carriers, rounds)),
-        Err(_) => u32::MAX,
-    }
+    let work = Work::new(heap, codes, carriers, rounds);
+    affine(parameters)
+        .and_then(|map| work.sweeps(&map).ok())
+        .unwrap_or(u32::MAX)
 }
 
 #[unsafe(no_mangle)]
@@ -308,13 +297,10 @@ pub extern "C" fn rattle_aff_exchanges(
     carriers: &[u32],
     rounds: u32,
 ) -> u32 {
-    let [m, a, b, c, d] = parameters else {
-        return u32::MAX;
-    };
-    match Affine::new(*m, *a, *b, *c, *d) {
-        Ok(map) => answer(exchanges(heap, &map, codes, carriers, rounds)),
-        Err(_) => u32::MAX,
-    }
+    let work = Work::new(heap, codes, carriers, rounds);
+    affine(parameters)
+        .and_then(|map| work.exchanges(&map).ok())
+        .unwrap_or(u32::MAX)
 }
 
 #[unsafe(no_mangle)]
@@ -325,13 +311,10 @@ pub extern "C" fn rattle_phase_sweeps(
     carriers: &[u32],
     rounds: u32,
 ) -> u32 {
-    let [m] = parameters else {
-        return u32::MAX;
-    };
-    match Phases::new(*m) {
-        Ok(map) => answer(sweeps(heap, &map, codes, carriers, rounds)),
-        Err(_) => u32::MAX,
-    }
+    let work = Work::new(heap, codes, carriers, rounds);
+    phases(parameters)
+        .and_then(|map| work.sweeps(&map).ok())
+        .unwrap_or(u32::MAX)
 }
 
 #[unsafe(no_mangle)]
@@ -342,13 +325,10 @@ pub extern "C" fn rattle_phase_exchanges(
     carriers: &[u32],
     rounds: u32,
 ) -> u32 {
-    let [m] = parameters else {
-        return u32::MAX;
-    };
-    match Phases::new(*m) {
-        Ok(map) => answer(exchanges(heap, &map, codes, carriers, rounds)),
-        Err(_) => u32::MAX,
-    }
+    let work = Work::new(heap, codes, carriers, rounds);
+    phases(parameters)
+        .and_then(|map| work.exchanges(&map).ok())
+        .unwrap_or(u32::MAX)
 }
 
 #[unsafe(no_mangle)]
@@ -359,21 +339,14 @@ pub extern "C" fn rattle_phase_raises(
     carriers: &[u32],
     rounds: u32,
 ) -> u32 {
-    let [m] = parameters else {
-        return u32::MAX;
-    };
-    match Phases::new(*m) {
-        Ok(map) => answer(raises(heap, &map, codes, carriers, rounds)),
-        Err(_) => u32::MAX,
-    }
+    let work = Work::new(heap, codes, carriers, rounds);
+    phases(parameters)
+        .and_then(|map| work.raises(&map).ok())
+        .unwrap_or(u32::MAX)
 }
 
 // The text of a row file read `rounds` times.
 #[unsafe(no_mangle)]
 pub extern "C" fn rattle_read(heap: Global, text: &[u8], rounds: u32) -> u32 {
-    let mut sum = 0;
-    for _round in 0..rounds {
-        sum = mix_file(sum, read(heap, text));
-    }
-    sum
+    (0..rounds).fold(0, |sum, _round| read(heap, text).mixed(sum))
 }

@@ -3,13 +3,6 @@ use Rattle.runs.specs.Sweeps.{swept}
 use Rattle.runs.proofs.Sweeps.{take_back_undone}
 use Rattle.bench.proofs.calls.recover.Goals as goal
 
-pub returns-then-code : goal.returns-then-code
-returns-then-code g c =
-    let m = g.M.ExchangeMap.meaning c.args.map.now in
-    let back = c.unsweep_row-back.ensures in
-    let told = c.code-code.ensures ∙ ap (λ p. m.elements.code p.0) back in
-    (sym told ∙ (c.if-code.true ∙ c.code.ensures), told, ap (λ p. p.1) back)
-
 pub returns : goal.returns
 returns g c =
     let m = g.M.ExchangeMap.meaning c.args.map.now in

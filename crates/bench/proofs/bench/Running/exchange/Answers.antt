@@ -1,0 +1,6 @@
+use Rattle.std.proofs.Common.{rules}
+use Rattle.runs.specs.Exchanges.{forth}
+use Rattle.bench.proofs.bench.Running.exchange.Goals as goal
+
+pub returns-clause-does : goal.returns-clause-does
+returns-clause-does g c = c.exchange_by.ensures.does forth (λ l r p k. search rules)
