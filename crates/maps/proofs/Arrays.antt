@@ -79,13 +79,13 @@ module _ {x : List ℕ} (p : Perm x) where
       omega (arith, number_after_ge 8 (number_from_digits 8 ds) (drop (n + 1) l) (omega arith), from_top x, weigh_small p)
 
 -- a number below 8 that is no image
-lacking : (x : List ℕ) (v : ℕ) → v < 8 → (Has x v → ⊥) → perm_belongs x ≡ false
+pub lacking : (x : List ℕ) (v : ℕ) → v < 8 → (Has x v → ⊥) → perm_belongs x ≡ false
 lacking x v h n = false_from_ne_true _ (λ e.
     let p = perm x (T_from_true _ e) in
     let b : place x v < length x = omega (arith, place_small p v h, p.long) in
     n (place x v, b, λ d. get_or_default x (place x v) d 0 b ∙ image_of p v h))
 
-found : (x : List ℕ) (v : ℕ) → Has x v → 1 ≤ times v x
+pub found : (x : List ℕ) (v : ℕ) → Has x v → 1 ≤ times v x
 found x v h = met v x h.0 h.1 (h.2 0)
 
 nth : (v : ℕ) → v < 8 → get_or (range_with_len 0 8) v 0 ≡ v

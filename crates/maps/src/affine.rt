@@ -89,6 +89,10 @@ impl Affine {
         ensures makes { Makes (affine_parameters m a b c d) (λ s. (s.f.modulus ≡ m) × (s.f.slope ≡ a) × (s.f.shift ≡ b) × (s.g.slope ≡ c) × (s.g.shift ≡ d)) result }
         ensures commutes { OnOk result (Commute m a b c d) }
     {
+        // the bounds of both lines come before the inverse of either, which takes longer
+        if c >= m || d >= m {
+            return Err(Refusal::BadParameters);
+        }
         let f = Line::new(m, a, b)?;
         let g = Line::new(m, c, d)?;
         // two lines commute where they do at 0
