@@ -20,7 +20,7 @@ module _ {E : Type 0} (m : Meaning E) where
   pub newest_view : (xs : List E) (n : ℕ) → 0 < n → n ≤ length xs → newest m (take n xs) ≡ at m xs (n - 1)
   newest_view xs n h k = ap (λ (l : ℕ). at m (take n xs) (l - 1)) (length-take-le n xs k) ∙ at_view xs n (n - 1) (omega arith)
 
-  newest_read : (xs : List E) (n : ℕ) (x : E) → 0 < n → n ≤ length xs → x ≡ get_or xs (n - 1) x → newest m (take n xs) ≡ x
+  pub newest_read : (xs : List E) (n : ℕ) (x : E) → 0 < n → n ≤ length xs → x ≡ get_or xs (n - 1) x → newest m (take n xs) ≡ x
   newest_read xs n x h k e = newest_view xs n h k ∙ sym (get_or_read xs (n - 1) x (omega arith) e m.elements.rest)
 
   -- the entry that is removed is the newest, and the memory stays
