@@ -1,6 +1,6 @@
 -- Bytes laid one behind another. Assumes nothing.
-use Rattle.std.proofs.Common.{◌≡◌, ℕ, suc, ◌+◌, ◌≤◌, [], ◌∷◌, ◌++◌, length, take, drop, set, Ok, sym, ap, ◌∙◌, subst, append_assoc, add-zero, arith, length-append, length-set}
-use Rattle.std.proofs.lemmas.List.{take_more_set, take-append-drop, drop-set-lt}
+use Rattle.std.proofs.Common.{◌≡◌, ℕ, suc, ◌+◌, ◌≤◌, [], ◌∷◌, ◌++◌, length, take, drop, set, Ok, sym, refl, ap, ◌∙◌, subst, append_assoc, add-zero, arith, length-append, length-set}
+use Rattle.std.proofs.lemmas.List.{take_more_set, take-append-drop, drop-set-lt, set_past}
 use Rattle.rowfile.specs.Lines.{Bytes}
 use Rattle.rowfile.specs.Writing.{Appends, laid, Lays, WritesFile}
 use Rattle.rowfile.specs.declared.writer.Sink.{Sink}
@@ -9,6 +9,11 @@ use Rattle.rowfile.specs.Files.{File, rowed, text_of, KeepsLines}
 laid_append : (out : Bytes) (at : ℕ) (xs ys : Bytes) → laid out at (xs ++ ys) ≡ laid (laid out at xs) (at + length xs) ys
 laid_append out at [] ys = ap (λ n. laid out n ys) (omega arith)
 laid_append out at (x ∷ xs) ys = laid_append (set out at x) (at + 1) xs ys ∙ ap (λ n. laid (laid (set out at x) (at + 1) xs) n ys) (omega arith)
+
+-- bytes laid behind the end change nothing
+pub laid_past : (out : Bytes) (at : ℕ) (bs : Bytes) → length out ≤ at → laid out at bs ≡ out
+laid_past out at [] h = refl
+laid_past out at (b ∷ bs) h = ap (λ k. laid k (at + 1) bs) (set_past out at b h) ∙ laid_past out (at + 1) bs (omega arith)
 
 pub lays_then : (out : Bytes) (at : ℕ) (xs ys mid after : Bytes) (r s : ℕ) → Lays out at xs mid r → Lays mid r ys after s → Lays out at (xs ++ ys) after s
 lays_then out at xs ys mid after r s f g =

@@ -1,7 +1,7 @@
 -- Bytes cut at a mark. Assumes nothing.
-use Rattle.std.proofs.Common.{◌≡◌, ℕ, zero, suc, ◌+◌, ◌-◌, min, get_or, ◌<◌, ◌≤◌, Bool, true, false, cond, eqb, List, [], ◌∷◌, ◌++◌, length, take, drop, sym, refl, ap, ◌∙◌, ⊎_elim, arith}
-use Rattle.std.proofs.lemmas.List.{take_all, drop_all, drop_more, take-append-le, get_or_append_left}
-use Rattle.std.proofs.Math.Seq.{drop-append_seam}
+use Rattle.std.proofs.Common.{◌≡◌, ℕ, zero, suc, ◌+◌, ◌-◌, min, get_or, ◌<◌, ◌≤◌, Bool, true, false, cond, eqb, List, [], ◌∷◌, ◌++◌, length, take, drop, sym, refl, ap, ◌∙◌, ⊎_elim, arith, length-append}
+use Rattle.std.proofs.lemmas.List.{take_all, drop_all, drop_more, take_more, take-append-le, get_or_append_left}
+use Rattle.std.proofs.Math.Seq.{drop-append_seam, take-append_seam, get_or-append_seam}
 use Rattle.std.proofs.lemmas.Bool.{cases_eq, cases_lt, eqb-true, eqb-false, eq-eqb, ne_eqb, cond-true, cond-false}
 use Rattle.std.specs.List.{IsFirstMatchOrLen}
 use Rattle.rowfile.specs.Lines.{Bytes, First, parts, behind, grown, lines, led, parted, ended}
@@ -112,3 +112,17 @@ module _ (t x us : Bytes) (i : ℕ) (cut : t ≡ x ++ us) (size : length x ≡ m
 
       beyond : length t ≤ i → lines t ≡ t ∷ []
       beyond l = last_line t (length t) (first (length t) (omega arith) l (λ k. absurd (omega arith))) refl
+
+  -- the same of what stands before the byte 10
+  pub line_before_end : (b : Bytes) → x ≡ b ++ 10 ∷ [] → lines t ≡ b ∷ lines us
+  line_before_end b e =
+      let n : length x - 1 ≡ length b = omega (arith, ap length e, length-append b (10 ∷ [])) in
+      let last : get_or x (length x - 1) 0 ≡ 10 = ap (λ k. get_or x k 0) n ∙ (ap (λ l. get_or l (length b) 0) e ∙ get_or-append_seam b 10 [] 0) in
+      let front : take (length x - 1) x ≡ b = ap (λ k. take k x) n ∙ (ap (take (length b)) e ∙ take-append_seam b (10 ∷ [])) in
+      ended_line last ∙ ap (λ k. k ∷ lines us) front
+
+  pub line_without_end : ((front : Bytes) → x ≡ front ++ 10 ∷ [] → ⊥) → lines t ≡ t ∷ []
+  line_without_end h =
+      let n = length x - 1 in
+      let whole : take (n + 1) x ≡ x = take_all (n + 1) x (omega arith) in
+      unended_line (λ e. h (take n x) (sym whole ∙ (take_more x n 0 (omega arith) ∙ ap (λ k. take n x ++ k ∷ []) e)))

@@ -57,4 +57,3 @@ module _ {fs gs : List Bytes} {ns : List ℕ} (r : Read fs gs ns) where
 
     pub read_bad : NoNumber f → Any NoNumber fs
     read_bad b = some_at NoNumber fs (map decimal ns) hs f split b
-    -- no field is left

@@ -1,5 +1,6 @@
 // The text, line by line.
-ghost use Rattle.rowfile.specs.Lines.{fields};
+ghost use Rattle.std.specs.Prelude.{◌≡◌, ◌≢◌, [], ◌∷◌, ◌++◌, MatchOption};
+ghost use Rattle.rowfile.specs.Lines.{Bytes, fields};
 ghost use Rattle.rowfile.specs.Reading.{Accepts, Reads, Rejects};
 ghost use Rattle.rowfile.specs.Stepping.{Ends, Takes};
 
@@ -66,6 +67,16 @@ impl Reader {
     }
 }
 
+// The bytes before the byte 10 that ends them, if one does.
+fn without_end(ended: &[u8]) -> Option<&[u8]>
+    ensures { MatchOption result ((front : Bytes) → ended.now ≢ front ++ 10 ∷ []) (λ bytes. ended.now ≡ bytes.now ++ 10 ∷ []) }
+{
+    match ended {
+        [bytes @ .., b'\n'] => Some(bytes),
+        _ => None,
+    }
+}
+
 // The file that `text` says, or why it is not read; but for want of memory no other answer is right.
 pub fn read(heap: Global, text: &[u8]) -> Result<RowFile, ReadError>
     ensures says { Reads text.now result }
@@ -84,7 +95,7 @@ pub fn read(heap: Global, text: &[u8]) -> Result<RowFile, ReadError>
     let mut line = 1;
     let mut offset = 0;
     for ended in text.split_inclusive(|b| *b == b'\n') {
-        let [bytes @ .., b'\n'] = ended else {
+        let Some(bytes) = without_end(ended) else {
             return Err(LineError::Refused(Refusal::BadForm).at(line));
         };
         reader

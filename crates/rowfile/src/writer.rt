@@ -71,16 +71,23 @@ struct Sink<'a> {
 // Kept: the `requires` of each method that the count cannot overflow, since how much may come depends on what is laid.
 impl Sink<'_> {
     // Kept: byte by byte, since the room may end among them: a copy of the part that fits needs both bounds besides the count.
+    // Without room they are only counted, and the place is written back once, since behind each byte it would be read anew.
     fn bytes(&mut self, bytes: &[u8])
         requires { self.old.at + length bytes.now < 2 ^ 64 }
         ensures { Appends self.old bytes.now self.new }
     {
-        for byte in bytes {
-            if self.at < self.out.len() {
-                self.out[self.at] = *byte;
-            }
-            self.at += 1;
+        if self.at >= self.out.len() {
+            self.at += bytes.len();
+            return;
         }
+        let mut at = self.at;
+        for byte in bytes {
+            if at < self.out.len() {
+                self.out[at] = *byte;
+            }
+            at += 1;
+        }
+        self.at = at;
     }
 
     // Lays the digits of a number.
@@ -141,8 +148,8 @@ impl Sink<'_> {
             Command::Exchange(place) => self.line(b"X", &[place]),
             Command::ExchangeBack(place) => self.line(b"Y", &[place]),
             Command::Raise(kind) => self.line(b"N", &[kind]),
-            Command::TakeBack => self.line(b"B", &[]),
-            Command::Print => self.line(b"P", &[]),
+            Command::TakeBack => self.bytes(b"B\n"),
+            Command::Print => self.bytes(b"P\n"),
         }
     }
 

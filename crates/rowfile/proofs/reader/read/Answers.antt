@@ -4,7 +4,6 @@ use Rattle.std.proofs.lemmas.Fn.{always_returns_same}
 use Rattle.std.proofs.lemmas.Result.{err_from_is_err_and, MatchResult-weaker}
 use Rattle.rowfile.specs.Lines.{Bytes}
 use Rattle.std.specs.Bool.{⊤}
-use Rattle.std.proofs.lemmas.Bool.{ltb-true, eqb-false}
 use Rattle.rowfile.specs.Faults.{Unready}
 use Rattle.rowfile.specs.Faults.Faulty.{too_long}
 use Rattle.rowfile.specs.Reading.{Reads, Accepts, Rejects, Refuses, file_of}
@@ -14,11 +13,9 @@ use Rattle.rowfile.specs.declared.file.ReadError.{ReadError}
 use Rattle.rowfile.specs.declared.file.ReadError.TheVariants.{Fault}
 use Rattle.rowfile.specs.declared.file.RowFile.{RowFile}
 use Rattle.rowfile.proofs.Exact.{only_file, only_fault}
-use Rattle.rowfile.proofs.Parts.{ended_line, unended_line}
-use Rattle.rowfile.proofs.Texts.{mapped, unread_so_far, before_more, refused_line, missing_line, whole_file, stage_so_far}
-use Rattle.rowfile.proofs.Texts.{unended_line as unended_text}
+use Rattle.rowfile.proofs.Parts.{line_before_end, line_without_end}
+use Rattle.rowfile.proofs.Texts.{mapped, unread_so_far, before_more, refused_line, unended_line, missing_line, whole_file, stage_so_far}
 use Rattle.rowfile.proofs.reader.read.Goals as goal
-use Rattle.rowfile.proofs.reader.read.Goals.{in_default-via-then-ended-lt1, in_default-via-else-ended-lt1+in_default-1}
 
 -- every answer that is right is the only one
 verdict : (t : Bytes) (r : Result RowFile ReadError) → Reads t r → record { says : Reads t r; accepts : Accepts t r; rejects : Rejects t r }
@@ -32,15 +29,15 @@ returns-in_default c =
     let s = c.in-Some.ensures.steps in
     let f = (s.1.2 (λ b. b == 10) (always_returns_same _ _ _ (λ a r q k. (search rules, refl)))).1 in
     let i = c.loop-ended.invariant in
-    let l = unended_line c.loop-ended.ended-iterator.rest.now c.in-Some.ended.now c.next.new.self.rest.now s.1.0 s.0 s.1.1 f s.2 (λ e. elim c.in_default.branch [ in_default-via-then-ended-lt1 w ↦ omega (arith, ltb-true) | in_default-via-else-ended-lt1+in_default-1 w ↦ omega (arith, eqb-false) ]) in
-    rw c.at-in_default.ensures (verdict c.args.text.now (Err (Fault (record { line = c.loop-ended.line; refusal = BadForm }))) (unended_text i.0 c.if-text-gt-MAX_BYTES.false s.2 l))
+    let l = line_without_end c.loop-ended.ended-iterator.rest.now c.in-Some.ended.now c.next.new.self.rest.now s.1.0 s.0 s.1.1 f s.2 c.in_default.ensures in
+    rw c.at-in_default.ensures (verdict c.args.text.now (Err (Fault (record { line = c.loop-ended.line; refusal = BadForm }))) (unended_line i.0 c.if-text-gt-MAX_BYTES.false s.2 l))
 
 pub returns-in_err-map_err : goal.returns-in_err-map_err
 returns-in_err-map_err c =
     let s = c.in-Some.ensures.steps in
     let f = (s.1.2 (λ b. b == 10) (always_returns_same _ _ _ (λ a r q k. (search rules, refl)))).1 in
     let i = c.loop-ended.invariant in
-    let l = ended_line c.loop-ended.ended-iterator.rest.now c.in-Some.ended.now c.next.new.self.rest.now s.1.0 s.0 s.1.1 f s.2 (omega arith) in
+    let l = line_before_end c.loop-ended.ended-iterator.rest.now c.in-Some.ended.now c.next.new.self.rest.now s.1.0 s.0 s.1.1 f s.2 c.in-Some-without_end.bytes.now c.in-Some-without_end.ensures in
     let p = err_from_is_err_and c.from_residual.result c.from_residual.ensures.1 in
     let q : MatchResult c.map_err.result (λ x. ⊤) (Refuses c.args.text.now) = MatchResult-weaker c.map_err.result (mapped _ _ _ c.read_line.result c.map_err.result (c.read_line.ensures i.1) c.map_err.ensures.cases)
     (λ x h. tt)
@@ -55,7 +52,7 @@ loop-ended-preserved c =
     let s = c.in-Some.ensures.steps in
     let f = (s.1.2 (λ b. b == 10) (always_returns_same _ _ _ (λ a r q k. (search rules, refl)))).1 in
     let i = c.loop-ended.invariant in
-    let l = ended_line c.loop-ended.ended-iterator.rest.now c.in-Some.ended.now c.next.new.self.rest.now s.1.0 s.0 s.1.1 f s.2 (omega arith) in
+    let l = line_before_end c.loop-ended.ended-iterator.rest.now c.in-Some.ended.now c.next.new.self.rest.now s.1.0 s.0 s.1.1 f s.2 c.in-Some-without_end.bytes.now c.in-Some-without_end.ensures in
     let q = rw c.in_ok-map_err.was at (mapped _ _ _ c.read_line.result c.map_err.result (c.read_line.ensures i.1) c.map_err.ensures.cases) in
     let n = length-append c.in-Some.ended.now c.next.new.self.rest.now in
     (before_more i.0 _ _ (said c.read_line.new.self) l q.0, q.1, omega (arith, ap length s.0), omega (arith, ap length s.0))

@@ -3,4 +3,4 @@ use Rattle.rowfile.proofs.Laid.{Left}
 use Rattle.rowfile.proofs.writer.Sink.bytes.Given as goal
 
 abbrev pub invariant-loop-byte : goal.invariant-loop-byte
-invariant-loop-byte l = Left l.self (drop l.byte-index l.bytes) l.initial.self l.bytes
+invariant-loop-byte l = Left (record { out = l.self.out; at = l.at }) (drop l.byte-index l.bytes) l.initial.self l.bytes
