@@ -60,10 +60,7 @@ impl Running {
         if self.sweeps == 0 {
             return Err(Refusal::LogEmpty);
         }
-        if !halves.entry_belongs(map, self.sweeps - 1) {
-            return Err(Refusal::Stray);
-        }
-        if !all_belong(map, &row[0..self.boxes]) {
+        if !(halves.entry_belongs(map, self.sweeps - 1) & all_belong(map, &row[0..self.boxes])) {
             return Err(Refusal::Stray);
         }
         Ok(())

@@ -49,9 +49,8 @@ impl<E: Copy> Log<'_, E> {
         ensures lent { Lent self.old self.new }
         ensures removed { Removed (entries self.old) result (entries self.new) }
     {
-        // with no entry this is past every place
-        let newest = self.count.wrapping_sub(1);
-        if !self.holds(newest) {
+        let newest = self.count.saturating_sub(1);
+        if self.count == 0 || !self.holds(newest) {
             return Err(Refusal::LogEmpty);
         }
         self.count = newest;
